@@ -1,0 +1,5 @@
+pub mod Orders
+pub mod Insertions
+pub mod Sorting
+pub mod Rows
+pub mod Sinks

@@ -1,0 +1,5 @@
+pub mod Climbs
+pub mod Grafts
+pub mod Finds
+pub mod Unions
+pub mod Chains

@@ -1,0 +1,6 @@
+pub mod All
+pub mod Steps
+pub mod Rows
+pub mod Ranges
+pub mod Walks
+pub mod Tests

@@ -1,0 +1,4 @@
+pub mod Arities
+pub mod Shapes
+pub mod Parts
+pub mod Mentions
