@@ -1,4 +1,4 @@
-// A fault as one line for a person: its number, what it means, its layer and its place.
+// A fault as text: one line for a person, and the same facts as words for a program.
 use hir_faults::Envelope;
 use hir_faults::Fault;
 use hir_faults::FunctionFault;
@@ -7,8 +7,13 @@ use hir_faults::PassFault;
 use hir_faults::RecordFault;
 use std::fmt;
 
+// Its number, what it means, its layer and its place.
 #[derive(Clone, Copy)]
 pub struct FaultLine(pub Envelope<Fault>);
+
+// `fault NUMBER LAYER BLOCK STEP KIND`, with - for what is absent.
+#[derive(Clone, Copy)]
+pub struct PlainFault(pub Envelope<Fault>);
 
 fn layer_name(layer: Layer) -> &'static str {
     match layer {
@@ -73,6 +78,27 @@ pub impl fmt::Display for FaultLine as FaultLineDisplay {
                 write!(f, ", block {block}, step {step})")
             }
             None => f.write_str(", no place)"),
+        }
+    }
+}
+
+pub impl fmt::Display for PlainFault as PlainFaultDisplay {
+    fn fmt<W: fmt::Write>(&self, f: &mut fmt::Formatter<W>) -> fmt::Result {
+        let e = self.0;
+        let number = e.fault.number();
+        let layer = e.layer.number();
+        write!(f, "fault {number} {layer}")?;
+        match e.place {
+            Some(place) => {
+                let block = place.block;
+                let step = place.step;
+                write!(f, " {block} {step}")?;
+            }
+            None => f.write_str(" - -")?,
+        }
+        match e.fault.source_kind() {
+            Some(kind) => write!(f, " {kind}"),
+            None => f.write_str(" -"),
         }
     }
 }

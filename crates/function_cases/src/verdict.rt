@@ -1,5 +1,7 @@
 // What the tests say of one case.
 use crate::cases::Case;
+use fault_text::PlainFault;
+use fault_text::PlainFaultDisplay;
 use function_tests::Memory;
 use function_tests::test_function;
 use hir_faults::Envelope;
@@ -19,25 +21,10 @@ use std::io;
 fn print_verdict(rt: &LibcRuntime, verdict: Result<u32, Envelope<Fault>>) -> io::Result<()> {
     match verdict {
         Ok(n) => print!(rt, "sound {n}"),
-        Err(e) => print_fault(rt, &e),
-    }
-}
-
-fn print_fault(rt: &LibcRuntime, e: &Envelope<Fault>) -> io::Result<()> {
-    let number = e.fault.number();
-    let layer = e.layer.number();
-    print!(rt, "fault {number} {layer}")?;
-    match e.place {
-        Some(place) => {
-            let block = place.block;
-            let step = place.step;
-            print!(rt, " {block} {step}")?;
+        Err(e) => {
+            let line = PlainFault(e);
+            print!(rt, "{line}")
         }
-        None => print!(rt, " - -")?,
-    }
-    match e.fault.source_kind() {
-        Some(kind) => print!(rt, " {kind}"),
-        None => print!(rt, " -"),
     }
 }
 

@@ -1,18 +1,41 @@
 // One fact to a line.
 use crate::page::Page;
-use hir_faults::Envelope;
-use hir_faults::Fault;
+use react_compiler_hir::BlockRow;
+use react_compiler_hir::IdentifierRow;
+use react_compiler_hir::InstructionRow;
 use react_compiler_hir::Source;
 use std::io;
 
+// A line's first word and position, and then its numbers.
+fn print_row(rt: &LibcRuntime, name: &str, position: usize, numbers: &[u32]) -> io::Result<()> {
+    print!(rt, "{name} {position}")?;
+    print_numbers(rt, numbers)?;
+    rt.print("\n")
+}
+
+fn print_numbers(rt: &LibcRuntime, numbers: &[u32]) -> io::Result<()> {
+    for number in numbers {
+        print!(rt, " {number}")?;
+    }
+    Ok(())
+}
+
+// A number that may be absent.
+fn print_some(rt: &LibcRuntime, number: Option<u32>) -> io::Result<()> {
+    match number {
+        Some(number) => print!(rt, " {number}"),
+        None => rt.print(" -"),
+    }
+}
+
 pub fn print_page<S: Source>(rt: &LibcRuntime, source: &S, page: &Page) -> io::Result<()> {
     let c = page.counts;
-    let b = c.blocks;
-    let i = c.instructions;
-    let w = c.words;
-    let s = c.scopes;
-    let d = c.identifiers;
-    println!(rt, "counts {b} {i} {w} {s} {d}")?;
+    rt.print("counts")?;
+    print_numbers(
+        rt,
+        &[c.blocks, c.instructions, c.words, c.scopes, c.identifiers],
+    )?;
+    rt.print("\n")?;
     print_blocks(rt, source)?;
     print_instructions(rt, source)?;
     print_words(rt, source)?;
@@ -20,21 +43,34 @@ pub fn print_page<S: Source>(rt: &LibcRuntime, source: &S, page: &Page) -> io::R
     print_identifiers(rt, page)
 }
 
+fn block_words(row: BlockRow) -> [u32; 8] {
+    [
+        row.kind,
+        row.first_instruction,
+        row.instruction_count,
+        row.terminal_kind,
+        row.terminal_number,
+        row.list_start,
+        row.operand_count,
+        row.successor_count,
+    ]
+}
+
+fn instruction_words(row: InstructionRow) -> [u32; 6] {
+    [
+        row.number,
+        row.kind,
+        row.lvalue,
+        row.list_start,
+        row.target_count,
+        row.read_count,
+    ]
+}
+
 fn print_blocks<S: Source>(rt: &LibcRuntime, source: &S) -> io::Result<()> {
     for i in 0..source.block_count() {
         if let Some(row) = source.block(i) {
-            let kind = row.kind;
-            let first = row.first_instruction;
-            let count = row.instruction_count;
-            let terminal = row.terminal_kind;
-            let number = row.terminal_number;
-            let list = row.list_start;
-            let operands = row.operand_count;
-            let successors = row.successor_count;
-            println!(
-                rt,
-                "block {i} {kind} {first} {count} {terminal} {number} {list} {operands} {successors}"
-            )?;
+            print_row(rt, "block", i, &block_words(row))?;
         }
     }
     Ok(())
@@ -43,16 +79,7 @@ fn print_blocks<S: Source>(rt: &LibcRuntime, source: &S) -> io::Result<()> {
 fn print_instructions<S: Source>(rt: &LibcRuntime, source: &S) -> io::Result<()> {
     for i in 0..source.instruction_count() {
         if let Some(row) = source.instruction(i) {
-            let number = row.number;
-            let kind = row.kind;
-            let lvalue = row.lvalue;
-            let list = row.list_start;
-            let targets = row.target_count;
-            let reads = row.read_count;
-            println!(
-                rt,
-                "instruction {i} {number} {kind} {lvalue} {list} {targets} {reads}"
-            )?;
+            print_row(rt, "instruction", i, &instruction_words(row))?;
         }
     }
     Ok(())
@@ -61,7 +88,7 @@ fn print_instructions<S: Source>(rt: &LibcRuntime, source: &S) -> io::Result<()>
 fn print_words<S: Source>(rt: &LibcRuntime, source: &S) -> io::Result<()> {
     for i in 0..source.word_count() {
         if let Some(word) = source.word(i) {
-            println!(rt, "word {i} {word}")?;
+            print_row(rt, "word", i, &[word])?;
         }
     }
     Ok(())
@@ -69,42 +96,28 @@ fn print_words<S: Source>(rt: &LibcRuntime, source: &S) -> io::Result<()> {
 
 fn print_scopes(rt: &LibcRuntime, page: &Page) -> io::Result<()> {
     for (i, row) in page.scopes.iter().enumerate() {
-        let id = row.range.id;
-        let start = row.range.start;
-        let end = row.range.end;
-        println!(rt, "scope {i} {id} {start} {end}")?;
+        print_row(
+            rt,
+            "scope",
+            i,
+            &[row.range.id, row.range.start, row.range.end],
+        )?;
     }
     Ok(())
 }
 
 fn print_identifiers(rt: &LibcRuntime, page: &Page) -> io::Result<()> {
     for (i, row) in page.identifiers.iter().enumerate() {
-        let id = row.mutable_range.id;
-        let start = row.mutable_range.start;
-        let end = row.mutable_range.end;
-        let primitive = row.primitive;
-        match row.scope_position() {
-            Some(scope) => println!(rt, "identifier {i} {id} {start} {end} {scope} {primitive}")?,
-            None => println!(rt, "identifier {i} {id} {start} {end} - {primitive}")?,
-        }
+        print_identifier(rt, i, *row)?;
     }
     Ok(())
 }
 
-pub fn print_fault(rt: &LibcRuntime, e: &Envelope<Fault>) -> io::Result<()> {
-    let number = e.fault.number();
-    let layer = e.layer.number();
-    print!(rt, "fault {number} {layer}")?;
-    match e.place {
-        Some(place) => {
-            let block = place.block;
-            let step = place.step;
-            print!(rt, " {block} {step}")?;
-        }
-        None => print!(rt, " - -")?,
-    }
-    match e.fault.source_kind() {
-        Some(kind) => println!(rt, " {kind}"),
-        None => println!(rt, " -"),
-    }
+fn print_identifier(rt: &LibcRuntime, i: usize, row: IdentifierRow) -> io::Result<()> {
+    let range = row.mutable_range;
+    print!(rt, "identifier {i}")?;
+    print_numbers(rt, &[range.id, range.start, range.end])?;
+    print_some(rt, row.scope_position())?;
+    print_numbers(rt, &[row.primitive])?;
+    rt.print("\n")
 }

@@ -12,6 +12,8 @@ use crate::page::page_of;
 use crate::plain;
 use fault_text::FaultLine;
 use fault_text::FaultLineDisplay;
+use fault_text::PlainFault;
+use fault_text::PlainFaultDisplay;
 use hir_faults::Envelope;
 use hir_faults::Fault;
 use hir_record::RecordSource;
@@ -129,7 +131,10 @@ fn refuse(rt: &LibcRuntime, layout: Layout, name: &str, e: Envelope<Fault>) -> i
             let line = FaultLine(e);
             eprintln!(rt, "{name}: {line}")?;
         }
-        Layout::Plain => plain::print_fault(rt, &e)?,
+        Layout::Plain => {
+            let line = PlainFault(e);
+            println!(rt, "{line}")?;
+        }
     }
     Ok(false)
 }

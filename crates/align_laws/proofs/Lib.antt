@@ -1,0 +1,15 @@
+pub mod Accepted
+pub mod Marking
+pub mod Runs
+pub mod Widening
+pub mod Stages
+pub mod Keeping
+pub mod Numbering
+pub mod Leaving
+pub mod Meeting
+pub mod Ends
+pub mod Nesting
+pub mod Starts
+pub mod Bounds
+pub mod Staying
+pub mod Soundness

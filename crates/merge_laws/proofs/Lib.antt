@@ -1,0 +1,12 @@
+pub mod Lists
+pub mod Stacks
+pub mod Ties
+pub mod Joins
+pub mod Orders
+pub mod Entries
+pub mod Numbers
+pub mod Ranges
+pub mod Fitting
+pub mod Chains
+pub mod Hulls
+pub mod Crossings

@@ -1,0 +1,1 @@
+// Words that the rules of both passes share. An inner crate of definitions.
