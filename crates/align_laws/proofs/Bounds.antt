@@ -1,12 +1,11 @@
 -- Brackets and nodes of a function with the numbers 1 to n start at 1 or later, and end at n + 1 or earlier.
-use mathlib.Core.Path.{_≡_, refl, sym, ap, subst, _∙_}
+use mathlib.Core.Path.{_≡_, refl}
 use mathlib.Core.Bool.{Bool, true, false, cond, _&&_}
 use mathlib.Core.List.{List, [], _∷_}
-use mathlib.Core.Logic.{inl, inr}
-use Prim.Native.Nat.{ℕ, zero, suc, _+_, _≤_, _<_}
+use Prim.Native.Nat.{ℕ, zero, suc, _+_, _≤_}
 use native.Mathlib.Omega.{arith}
 use lib.Dec.{eqb}
-use lib.ListN.{length, getD, set, replicate}
+use lib.ListN.{length, getD, replicate}
 use Rattle.std.specs.declared.option.Option.{Option}
 use Rattle.std.specs.declared.option.Option.the-variants.{Some, None}
 use Rattle.std.specs.declared.result.Result.the-variants.{Ok}
@@ -17,13 +16,13 @@ use Rattle.hir_faults.specs.declared.fault.PassFault.the-variants.{SharedFallth
 use Rattle.react_compiler_hir.specs.declared.rows.BlockRow.{BlockRow}
 use Rattle.react_compiler_hir.specs.declared.rows.InstructionRow.{InstructionRow}
 use Rattle.react_compiler_hir.specs.Function.{HirFunction}
-use Rattle.visitors.specs.Mentions.{block-numbers, block-first-number, terminal-fallthrough, terminal-successors}
+use Rattle.visitors.specs.Mentions.{block-numbers, terminal-fallthrough, terminal-successors}
 use Rattle.function_laws.specs.Sound.{Numbered}
 use Rattle.align_rules.specs.Brackets.{Bracket, row-first, first-at, branch, bracket-to, bracket-of}
 use Rattle.align_rules.specs.Marks.{Node, Marks, node-at, is-none, value-block, closing-at, open-after, at-terminal, id-taken, bracket-marked, node-for, successor-marked, block-marked}
 use Rattle.align_rules.specs.Ranges.{Reach, node-reach, or-else, earliest-to, all-but-newest, left-to, leaving-reach, opening-reach, terminal-reach, goto-target}
 use Rattle.align_laws.proofs.Accepted.{Accepts, accepts-then, accepts-unless, accepts-cond, accepts-walked}
-use Rattle.align_laws.proofs.Numbering.{before, Block-numbers, block-numbers-at}
+use Rattle.align_laws.proofs.Numbering.{before, block-numbers-at}
 
 -- of what there is, if there is something
 abbrev pub If-some : {X : Type 0} → (X → Type 0) → Option X → Type 0

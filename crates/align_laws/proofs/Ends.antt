@@ -1,15 +1,14 @@
 -- A scope that was met by the terminal of a bracket and ends after it ends with the bracket or later.
 use mathlib.Core.Path.{_≡_, refl, sym, ap, subst, _∙_}
 use mathlib.Core.Bool.{Bool, true, false, cond}
-use mathlib.Core.List.{List, [], _∷_, map}
+use mathlib.Core.List.{List}
 use mathlib.Core.Logic.{_⊎_, inl, inr}
-use Prim.Native.Nat.{ℕ, zero, suc, _+_, _-_, _≤_, _<_}
+use Prim.Native.Nat.{ℕ, _+_, _-_, _≤_, _<_}
 use native.Mathlib.Omega.{arith}
 use lib.Dec.{eqb, ltb, leb}
 use lib.ListN.{length}
 use Rattle.std.specs.declared.option.Option.{Option}
 use Rattle.std.specs.declared.option.Option.the-variants.{Some, None}
-use Rattle.std.specs.declared.result.Result.the-variants.{Ok}
 use Rattle.std.specs.shelf.Maps.{nth}
 use Rattle.std.proofs.shelf.Maps.{nth-past}
 use Rattle.std.proofs.shelf.Lists.{length-map, getD-past}
@@ -19,20 +18,19 @@ use Rattle.react_compiler_hir.specs.declared.rows.BlockRow.{BlockRow}
 use Rattle.react_compiler_hir.specs.declared.rows.IdentifierRow.{IdentifierRow}
 use Rattle.react_compiler_hir.specs.Function.{HirFunction}
 use Rattle.visitors.specs.Mentions.{instructions-of, terminal-fallthrough, block-first-number}
-use Rattle.rules.specs.Rows.{Rows, contains, identifier-scope, scope-range}
-use Rattle.function_laws.specs.Sound.{Sound, Numbered}
+use Rattle.rules.specs.Rows.{Rows, scope-range}
+use Rattle.function_laws.specs.Sound.{Numbered}
 use Rattle.align_rules.specs.Brackets.{Bracket, first-at, branch, bracket-to, bracket-of, row-bracket, bracket-at}
 use Rattle.align_rules.specs.Marks.{open-after}
 use Rattle.align_rules.specs.Ranges.{Tracked, tracked, untracked, terminal-reach, opening-reach, left-to, goto-target}
-use Rattle.align_rules.specs.Align.{Walk, walk-at-start, scope-left, align-walked}
-use Rattle.align_rules.specs.Meets.{By-instruction, By-terminal, Met}
+use Rattle.align_rules.specs.Align.{Walk, walk-at-start}
 use Rattle.align_laws.specs.Laws.{Bracket-ends}
+use Rattle.align_laws.proofs.Locating.{By-instruction, By-terminal, Met-in, met-in}
 use Rattle.align_laws.proofs.Runs.{at, terminal-run, block-run}
-use Rattle.align_laws.proofs.Widening.{Wider}
 use Rattle.align_laws.proofs.Stages.{Step, Stage, stage-step, climb, climb-all, step-alone}
-use Rattle.align_laws.proofs.Keeping.{range-left, range-found, Accepted, accepted, Wide, wide-start, wide-more, wide-end}
+use Rattle.align_laws.proofs.Keeping.{range-left, range-found, accepted, Wide, wide-start, wide-more, wide-end}
 use Rattle.align_laws.proofs.Numbering.{before, Block-numbers, block-numbers-at, before-rises}
-use Rattle.align_laws.proofs.Leaving.{Gone, gone-block}
+use Rattle.align_laws.proofs.Leaving.{gone-block}
 use Rattle.align_laws.proofs.Meeting.{Inside, inside-wider, active-block, met-block, stretched-up}
 
 pub nth-known : {X : Type 0} (xs : List X) (k : ℕ) (x : X) → nth xs k ≡ Some x → k < length xs
@@ -122,7 +120,7 @@ module _ (f : HirFunction) (found : Rows) (n counter : ℕ) (numbered : Numbered
       climb-all f ds (Left e) (left-more e) (length (f .blocks) - k) k (omega arith) w end h (record { wide = wide; ended = ended; past = past }) .ended
 
   -- met in the block at this position
-  module _ (number : ℕ) (met : Met f found p number) where
+  module _ (number : ℕ) (met : Met-in f found p number) where
     -- up to its block nothing is asked; then the scope is active, or it ended before the next block
     abbrev pub Known : ℕ → Tracked → Type 0
     Known k r = (k ≤ met .position) ⊎ ((r .active ≡ true) ⊎ (r .range .end ≤ count k))
@@ -181,7 +179,7 @@ module _ (f : HirFunction) (found : Rows) (n counter : ℕ) (numbered : Numbered
     followed-start = record { wide = wide-start f from; state = inl (omega arith) }
 
     -- its block has only greater numbers than the blocks before
-    pub met-number : count (met .position) < number
+    met-number : count (met .position) < number
     met-number =
         let c = numbers (met .position) (met .block) (met .stands) in
         elim (met .place) [
@@ -201,7 +199,7 @@ module _ (f : HirFunction) (found : Rows) (n counter : ℕ) (numbered : Numbered
     ]
 
     -- the law, for this scope and a bracket that opens in the block at position k
-    pub ends-with : (end : Walk) → Stage f ds 0 from end → (k : ℕ) (x : Bracket) → bracket-at f k ≡ Some x → number ≤ x .start → x .start < at (end .scopes) p .range .end → x .end ≤ at (end .scopes) p .range .end
+    ends-with : (end : Walk) → Stage f ds 0 from end → (k : ℕ) (x : Bracket) → bracket-at f k ≡ Some x → number ≤ x .start → x .start < at (end .scopes) p .range .end → x .end ≤ at (end .scopes) p .range .end
     ends-with end h k x e l g =
         let o = opening f k x e in
         let b = o .block in
@@ -246,7 +244,7 @@ bracket-ends f found left n counter counter′ sound e k x opens p number met l 
     let same : scope-range (left .scopes) p ≡ at (end .scopes) p .range = sym (ap (λ r. scope-range (r .scopes) p) (a .rows)) ∙ range-left (end .scopes) p in
     let after : x .start < at (end .scopes) p .range .end = subst (λ r. x .start < r .end) same g in
     subst (λ r. x .end ≤ r .end) (sym same) (elim (cases-lt p (length (found .scopes))) [
-      | inl known ↦ ends-with f found n counter (sound .numbered) p known number met end (a .stage) k x opens l after
+      | inl known ↦ ends-with f found n counter (sound .numbered) p known number (met-in f found p number met) end (a .stage) k x opens l after
       | inr past ↦
           let wide = wide-end f (found .identifiers) (length (f .blocks)) 0 (omega arith) (walk-at-start f found counter) end (a .stage) in
           let none = out-of-table f found counter p end wide past in

@@ -4,7 +4,7 @@ use mathlib.Core.List.{List, [], _∷_, map}
 use mathlib.Core.Logic.{inl, inr}
 use Prim.Native.Nat.{ℕ, zero, suc, _+_, _≤_, _<_}
 use native.Mathlib.Omega.{arith}
-use lib.ListN.{length, drop}
+use lib.ListN.{length}
 use Rattle.std.specs.declared.result.Result.the-variants.{Ok}
 use Rattle.std.specs.declared.option.Option.the-variants.{Some}
 use Rattle.std.specs.shelf.Maps.{nth}
@@ -78,7 +78,7 @@ each-map R g h (x ∷ xs) = (h x, each-map R g h xs)
 kept : (found left : List ScopeRow) (d : IdentifierRow) → Identifier-kept d (synced found left d)
 kept found left d = record { range-id = refl; scope = refl; primitive = refl }
 
-pub range-wider : (from w : Walk) (f : HirFunction) (p : ℕ) → Wide f from w → Wider (at (from .scopes) p) (at (w .scopes) p)
+range-wider : (from w : Walk) (f : HirFunction) (p : ℕ) → Wide f from w → Wider (at (from .scopes) p) (at (w .scopes) p)
 range-wider from w f p h = elim (cases-lt p (length (from .scopes))) [
   | inl l ↦ h .wide p l
   | inr l ↦

@@ -6,10 +6,13 @@ pub mod Stages
 pub mod Keeping
 pub mod Numbering
 pub mod Leaving
+pub mod Locating
 pub mod Meeting
 pub mod Ends
 pub mod Nesting
 pub mod Starts
+pub mod Resting
+pub mod Unmet
 pub mod Bounds
 pub mod Staying
 pub mod Soundness

@@ -1,11 +1,10 @@
 -- What a block that is accepted notes: ids are only taken, and its bracket joins those that stay open.
-use mathlib.Core.Path.{_≡_, refl, _∙_}
-use mathlib.Core.Bool.{Bool, not, _&&_}
-use mathlib.Core.List.{List, [], _∷_}
+use mathlib.Core.Path.{_≡_, refl}
+use mathlib.Core.Bool.{not, _&&_}
+use mathlib.Core.List.{List, _∷_}
 use Prim.Native.Nat.{ℕ, _+_, _≤_}
 use native.Mathlib.Omega.{arith}
 use lib.Dec.{eqb}
-use lib.ListN.{set}
 use Rattle.std.specs.declared.option.Option.{Option}
 use Rattle.std.specs.declared.option.Option.the-variants.{Some, None}
 use Rattle.std.specs.declared.result.Result.the-variants.{Ok}
@@ -13,7 +12,6 @@ use Rattle.hir_faults.specs.declared.fault.PassFault.the-variants.{SharedFallth
 use Rattle.react_compiler_hir.specs.declared.rows.BlockRow.{BlockRow}
 use Rattle.react_compiler_hir.specs.Function.{HirFunction}
 use Rattle.visitors.specs.Mentions.{terminal-fallthrough, terminal-successors}
-use Rattle.function_tests.specs.Steps.{walked}
 use Rattle.align_rules.specs.Brackets.{Bracket, first-at, bracket-of}
 use Rattle.align_rules.specs.Marks.{Node, Marks, node-at, is-none, value-block, open-after, at-terminal, id-taken, bracket-marked, node-for, successor-marked, block-marked}
 use Rattle.align_laws.proofs.Accepted.{Accepts, accepts-then, accepts-unless, accepts-cond, accepts-walked}

@@ -1,6 +1,6 @@
 -- A scope that a block meets is active after it, and so is one that was active and has not ended.
 use mathlib.Core.Path.{_≡_, refl, sym, ap, subst, _∙_}
-use mathlib.Core.Bool.{Bool, true, false, cond, not, _&&_, _||_}
+use mathlib.Core.Bool.{Bool, true, false, cond, _&&_}
 use mathlib.Core.List.{List, [], _∷_}
 use mathlib.Core.Logic.{_⊎_, inl, inr}
 use Prim.Native.Nat.{ℕ, zero, suc, _≤_, _<_}
@@ -11,18 +11,17 @@ use Rattle.std.specs.declared.option.Option.{Option}
 use Rattle.std.specs.declared.option.Option.the-variants.{Some, None}
 use Rattle.std.specs.shelf.Lists.{Has}
 use Rattle.std.proofs.shelf.Tests.{lt-ltb, le-leb, le-ltb, eq-eqb, and-from, and-right, or-left, or-right, cond-true, cases-lt}
-use Rattle.react_compiler_hir.specs.declared.rows.MutableRange.{MutableRange}
 use Rattle.react_compiler_hir.specs.declared.rows.BlockRow.{BlockRow}
 use Rattle.react_compiler_hir.specs.declared.rows.InstructionRow.{InstructionRow}
 use Rattle.react_compiler_hir.specs.declared.rows.IdentifierRow.{IdentifierRow}
 use Rattle.react_compiler_hir.specs.Function.{HirFunction}
 use Rattle.visitors.specs.Mentions.{instructions-of, instruction-mentions, terminal-operands, block-first-number}
 use Rattle.rules.specs.Rows.{contains, identifier-scope}
-use Rattle.align_rules.specs.Marks.{Node, Marks, node-at, closing-at, open-after}
-use Rattle.align_rules.specs.Ranges.{Tracked, Reach, reaching, entered, placed, stretched, terminal-reach}
-use Rattle.align_rules.specs.Meets.{By-instruction, By-terminal}
+use Rattle.align_rules.specs.Marks.{Node, Marks, node-at, closing-at}
+use Rattle.align_rules.specs.Ranges.{Tracked, Reach, reaching, placed, stretched}
+use Rattle.align_laws.proofs.Locating.{By-instruction, By-terminal}
 use Rattle.align_laws.proofs.Runs.{scope-run, places-run, instructions-run, placed-run, block-run}
-use Rattle.align_laws.proofs.Widening.{Wider, wider-trans, entered-wider, scope-wider, places-wider, instructions-wider}
+use Rattle.align_laws.proofs.Widening.{Wider, entered-wider, scope-wider, places-wider, instructions-wider}
 use Rattle.align_laws.proofs.Leaving.{reaching-not}
 
 -- the range contains the number

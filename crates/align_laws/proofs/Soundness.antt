@@ -1,4 +1,4 @@
--- An align of rows that are sound leaves sound rows.
+-- An accepted align leaves sound rows where it found such.
 use mathlib.Core.Path.{_≡_, refl, sym, ap, subst, _∙_}
 use mathlib.Core.Bool.{Bool, true, false}
 use mathlib.Core.List.{List, [], _∷_, map}
@@ -9,7 +9,6 @@ use lib.Dec.{eqb}
 use lib.ListN.{length}
 use Rattle.std.specs.declared.option.Option.{Option}
 use Rattle.std.specs.declared.option.Option.the-variants.{Some, None}
-use Rattle.std.specs.declared.result.Result.the-variants.{Ok}
 use Rattle.std.specs.shelf.Maps.{nth}
 use Rattle.std.specs.shelf.Lists.{All}
 use Rattle.std.proofs.shelf.Elements.{all-map, all-weaker}
@@ -25,14 +24,15 @@ use Rattle.function_tests.specs.Ranges.{range-sound, names-sound, scope-known}
 use Rattle.function_tests.specs.Rows.{instruction-known, block-known}
 use Rattle.rules.specs.Rows.{Rows, identifier-scope, scope-range}
 use Rattle.function_laws.specs.Sound.{Sound, Numbered}
-use Rattle.align_rules.specs.Marks.{Marks, block-marked}
-use Rattle.align_rules.specs.Ranges.{Tracked, tracked}
+use Rattle.align_rules.specs.Marks.{block-marked}
+use Rattle.align_rules.specs.Ranges.{tracked}
 use Rattle.align_rules.specs.Align.{Walk, walk-at-start, scope-left, synced, rows-left}
 use Rattle.align_laws.specs.Laws.{Align-keeps-sound}
 use Rattle.align_laws.proofs.Accepted.{accepts-ok}
-use Rattle.align_laws.proofs.Runs.{at, block-run}
+use Rattle.align_laws.proofs.Runs.{at}
 use Rattle.align_laws.proofs.Stages.{Step, Stage, climb-all, step-alone}
 use Rattle.align_laws.proofs.Keeping.{range-left, range-found, accepted, Wide, wide-start, wide-more, wide-end}
+use Rattle.align_laws.proofs.Unmet.{rests-start}
 use Rattle.align_laws.proofs.Numbering.{block-numbers-at}
 use Rattle.align_laws.proofs.Bounds.{Marks-bound, closing-bound, node-at-bound, terminal-reach-bound, block-marked-bound, marks-bound-start, first-at-bound}
 use Rattle.align_laws.proofs.Staying.{Stays, stays-sound, stays-block}
@@ -90,13 +90,8 @@ module _ (f : HirFunction) (found : Rows) (n counter : ℕ) (numbered : Numbered
   keeps-start = record {
     wide = wide-start f from;
     bound = marks-bound-start n (length (f .blocks)) counter;
-    stays = inl (idle (found .scopes) p, refl);
+    stays = inl (rests-start (found .scopes) p);
   }
-    where
-      idle : (ss : List ScopeRow) (q : ℕ) → at (map tracked ss) q .active ≡ false
-      idle [] q = refl
-      idle (s ∷ ss) zero = refl
-      idle (s ∷ ss) (suc q) = idle ss q
 
   range-kept : (end : Walk) → Stage f ds 0 from end → range-sound n (at (end .scopes) p .range) ≡ true
   range-kept end h =

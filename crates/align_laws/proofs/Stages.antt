@@ -1,12 +1,11 @@
 -- An accepted walk, block by block.
-use mathlib.Core.Path.{_≡_, refl, sym, ap, subst, _∙_}
+use mathlib.Core.Path.{_≡_, refl, sym, subst}
 use mathlib.Core.List.{List, [], _∷_}
 use Prim.Native.Nat.{ℕ, zero, suc, _+_, _≤_, _<_}
 use native.Mathlib.Nat.{suc-add}
 use native.Mathlib.Omega.{arith}
 use lib.ListN.{length, drop}
-use Rattle.std.specs.declared.option.Option.{Option}
-use Rattle.std.specs.declared.option.Option.the-variants.{Some, None}
+use Rattle.std.specs.declared.option.Option.the-variants.{Some}
 use Rattle.std.specs.declared.result.Result.the-variants.{Ok}
 use Rattle.std.specs.shelf.Maps.{nth}
 use Rattle.std.proofs.shelf.Lists.{drop-all}
@@ -15,8 +14,8 @@ use Rattle.react_compiler_hir.specs.declared.rows.IdentifierRow.{IdentifierRow}
 use Rattle.react_compiler_hir.specs.Function.{HirFunction}
 use Rattle.function_tests.specs.Steps.{walked}
 use Rattle.align_rules.specs.Brackets.{bracket-of}
-use Rattle.align_rules.specs.Marks.{Marks, open-after, block-marked}
-use Rattle.align_rules.specs.Ranges.{Tracked, block-tracked}
+use Rattle.align_rules.specs.Marks.{open-after, block-marked}
+use Rattle.align_rules.specs.Ranges.{block-tracked}
 use Rattle.align_rules.specs.Align.{Walk, block-aligned}
 use Rattle.align_laws.proofs.Accepted.{accepts-ok, then-ok}
 use Rattle.align_laws.proofs.Marking.{opened, block-more}
@@ -29,7 +28,7 @@ drop-nth [] k x e =
 drop-nth (y ∷ ys) zero x e = cc
 drop-nth (y ∷ ys) (suc k) x e = rw suc-add (drop-nth ys k x e)
 
-pub nth-some : {X : Type 0} (xs : List X) (k : ℕ) → k < length xs → (x : X) × (nth xs k ≡ Some x)
+nth-some : {X : Type 0} (xs : List X) (k : ℕ) → k < length xs → (x : X) × (nth xs k ≡ Some x)
 nth-some [] k h = absurd (omega arith)
 nth-some (y ∷ ys) zero h = (y, refl)
 nth-some (y ∷ ys) (suc k) h = nth-some ys k (omega arith)
@@ -62,7 +61,7 @@ module _ (f : HirFunction) (ds : List IdentifierRow) where
       let s = then-ok (block-aligned f ds k w b) (λ v. walked (block-aligned f ds) (k + 1) v (drop (k + 1) (f .blocks))) end g in
       (s .0, step-of k w b (s .0) (s .1), s .2)
 
-  pub stage-end : (w end : Walk) → Stage (length (f .blocks)) w end → w ≡ end
+  stage-end : (w end : Walk) → Stage (length (f .blocks)) w end → w ≡ end
   stage-end w end h =
       let g : walked (block-aligned f ds) (length (f .blocks)) w [] ≡ Ok end = subst (λ l. walked (block-aligned f ds) (length (f .blocks)) w l ≡ Ok end) (drop-all (length (f .blocks)) (f .blocks) (omega arith)) h in
       cc

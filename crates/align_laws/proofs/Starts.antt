@@ -1,9 +1,9 @@
 -- In a bracketed function, a scope that was met before the end of a bracket and ends after it starts with the
 -- bracket or earlier.
 use mathlib.Core.Path.{_≡_, refl, sym, ap, subst, _∙_}
-use mathlib.Core.Bool.{Bool, true, _&&_}
-use mathlib.Core.List.{List, [], _∷_}
-use mathlib.Core.Logic.{_⊎_, inl, inr}
+use mathlib.Core.Bool.{true, _&&_}
+use mathlib.Core.List.{List}
+use mathlib.Core.Logic.{inl, inr}
 use Prim.Native.Nat.{ℕ, _+_, _-_, _≤_, _<_}
 use native.Mathlib.Omega.{arith}
 use lib.Dec.{ltb}
@@ -18,21 +18,22 @@ use Rattle.react_compiler_hir.specs.declared.rows.IdentifierRow.{IdentifierRow}
 use Rattle.react_compiler_hir.specs.Function.{HirFunction}
 use Rattle.visitors.specs.Mentions.{block-first-number}
 use Rattle.rules.specs.Rows.{Rows, scope-range}
-use Rattle.function_laws.specs.Sound.{Sound, Numbered}
+use Rattle.function_laws.specs.Sound.{Numbered}
 use Rattle.align_rules.specs.Brackets.{Bracket, row-first, first-at, bracket-of, bracket-at}
 use Rattle.align_rules.specs.Marks.{closing-at, open-after}
 use Rattle.align_rules.specs.Ranges.{Tracked, reaching, entered}
-use Rattle.align_rules.specs.Align.{Walk, walk-at-start, align-walked}
-use Rattle.align_rules.specs.Meets.{Met, Bracketed}
+use Rattle.align_rules.specs.Align.{Walk, walk-at-start}
+use Rattle.align_rules.specs.Meets.{Bracketed}
 use Rattle.align_laws.specs.Laws.{Bracket-starts}
 use Rattle.align_laws.proofs.Marking.{opened}
-use Rattle.align_laws.proofs.Runs.{at, block-run}
-use Rattle.align_laws.proofs.Widening.{Wider, after-entry-wider}
+use Rattle.align_laws.proofs.Locating.{Met-in, met-in}
+use Rattle.align_laws.proofs.Runs.{at}
+use Rattle.align_laws.proofs.Widening.{after-entry-wider}
 use Rattle.align_laws.proofs.Stages.{Step, Stage, stage-step, climb}
-use Rattle.align_laws.proofs.Keeping.{range-left, accepted, Wide, wide-end, wide-more}
-use Rattle.align_laws.proofs.Numbering.{before, Block-numbers, block-numbers-at}
+use Rattle.align_laws.proofs.Keeping.{range-left, accepted, wide-end}
+use Rattle.align_laws.proofs.Numbering.{before, block-numbers-at}
 use Rattle.align_laws.proofs.Nesting.{Opened-before, Under, opened-more, under-more, under-closing}
-use Rattle.align_laws.proofs.Ends.{nth-known, Opening, opening, run-here, known-in, gone-here, left-for-good, Followed, followed-more, followed-start, met-by, out-of-table}
+use Rattle.align_laws.proofs.Ends.{nth-known, opening, run-here, known-in, gone-here, left-for-good, Followed, followed-more, followed-start, met-by, out-of-table}
 
 -- an active scope that goes on where a bracket closes reaches down to its terminal
 entered-down : (first t : ℕ) (closing : Option ℕ) (r : Tracked) → closing ≡ Some t → r .active ≡ true → first < r .range .end → entered first closing r .range .start ≤ t
@@ -48,7 +49,7 @@ closing-block f k number l = (elim (nth (f .blocks) k) as (λ o. nth (f .blocks)
   | Some b ↦ λ e h. (b, e, ap (row-first (f .instructions)) e)
 ]) refl l
 
-module _ (f : HirFunction) (found : Rows) (n counter : ℕ) (numbered : Numbered (f .instructions) 0 (f .blocks) n) (bracketed : Bracketed f) (p : ℕ) (known : p < length (found .scopes)) (number : ℕ) (met : Met f found p number) where
+module _ (f : HirFunction) (found : Rows) (n counter : ℕ) (numbered : Numbered (f .instructions) 0 (f .blocks) n) (bracketed : Bracketed f) (p : ℕ) (known : p < length (found .scopes)) (number : ℕ) (met : Met-in f found p number) where
   abbrev from : Walk
   from = walk-at-start f found counter
 
@@ -141,7 +142,7 @@ bracket-starts f found left n counter counter′ sound e bracketed j x opens p n
     let same : scope-range (left .scopes) p ≡ at (end .scopes) p .range = sym (ap (λ r. scope-range (r .scopes) p) (a .rows)) ∙ range-left (end .scopes) p in
     let after : x .end < at (end .scopes) p .range .end = subst (λ r. x .end < r .end) same g in
     subst (λ r. r .start ≤ x .start) (sym same) (elim (cases-lt p (length (found .scopes))) [
-      | inl known ↦ starts-with f found n counter (sound .numbered) bracketed p known number met j x opens end (a .stage) l after
+      | inl known ↦ starts-with f found n counter (sound .numbered) bracketed p known number (met-in f found p number met) j x opens end (a .stage) l after
       | inr past ↦
           let wide = wide-end f (found .identifiers) (length (f .blocks)) 0 (omega arith) (walk-at-start f found counter) end (a .stage) in
           let none = out-of-table f found counter p end wide past in

@@ -1,14 +1,14 @@
 -- A scope with a sound range has a sound range after every step.
-use mathlib.Core.Path.{_≡_, refl, sym, ap, subst, _∙_}
-use mathlib.Core.Bool.{Bool, true, false, cond, not, _&&_, _||_}
+use mathlib.Core.Path.{_≡_, sym, subst}
+use mathlib.Core.Bool.{Bool, true, false, cond, not, _&&_}
 use mathlib.Core.List.{List, [], _∷_}
 use mathlib.Core.Logic.{_⊎_, inl, inr}
-use Prim.Native.Nat.{ℕ, _+_, _≤_, _<_}
+use Prim.Native.Nat.{ℕ, _+_, _≤_}
 use native.Mathlib.Omega.{arith}
 use lib.Dec.{eqb, ltb, leb}
 use Rattle.std.specs.declared.option.Option.{Option}
 use Rattle.std.specs.declared.option.Option.the-variants.{Some, None}
-use Rattle.std.proofs.shelf.Tests.{cases-bool, and-left, and-parts, and-from, or-cases, or-from, or-right, eqb-true, leb-true, ltb-true, le-leb}
+use Rattle.std.proofs.shelf.Tests.{cases-bool, and-parts, and-from, or-cases, or-right, eqb-true, leb-true, ltb-true, le-leb}
 use Rattle.react_compiler_hir.specs.declared.rows.MutableRange.{MutableRange}
 use Rattle.react_compiler_hir.specs.declared.rows.BlockRow.{BlockRow}
 use Rattle.react_compiler_hir.specs.declared.rows.InstructionRow.{InstructionRow}
@@ -19,8 +19,8 @@ use Rattle.function_tests.specs.Ranges.{range-sound}
 use Rattle.rules.specs.Rows.{contains, identifier-scope}
 use Rattle.align_rules.specs.Marks.{Node, Marks, node-at, closing-at, open-after}
 use Rattle.align_rules.specs.Ranges.{Tracked, Reach, lowered, raised, only, reaching, node-reach, stays, entered, placed, stretched, terminal-reach}
-use Rattle.align_laws.proofs.Runs.{scope-run, places-run, instructions-run, placed-run, terminal-run, block-run}
-use Rattle.align_laws.proofs.Leaving.{reaching-not}
+use Rattle.align_laws.proofs.Runs.{scope-run, places-run, instructions-run, terminal-run, block-run}
+use Rattle.align_laws.proofs.Resting.{Rests, rests-entered, rests-placed, rests-stretched}
 use Rattle.align_laws.proofs.Bounds.{If-some, Node-bound, Reach-bound, node-reach-bound}
 
 module _ (n : ℕ) where
@@ -29,7 +29,7 @@ module _ (n : ℕ) where
     pub ordered : r .start ≤ r .end
     pub high : r .end ≤ n + 1
 
-  pub within-sound : (r : MutableRange) → Within r → range-sound n r ≡ true
+  within-sound : (r : MutableRange) → Within r → range-sound n r ≡ true
   within-sound r h =
       or-right (eqb (r .start) (r .end)) (leb 1 (r .start) && leb (r .start) (r .end) && leb (r .end) (n + 1))
       (and-from _ (leb (r .end) (n + 1))
@@ -70,36 +70,30 @@ module _ (n : ℕ) where
       let e = raised-bound test (to .up) (r .end) (b .up) (h .high) in
       record { low = s .0; ordered = omega (arith, s .1, e .1, h .ordered); high = e .0 }
 
-  -- a scope that was found with this range: it has it still and is not active, or it lies within the function
+  -- a scope that was found with this range: it rests, or it lies within the function
   module _ (found : MutableRange) (sound : range-sound n found ≡ true) where
     abbrev pub Stays : Tracked → Type 0
-    Stays r = ((r .active ≡ false) × (r .range ≡ found)) ⊎ Within (r .range)
+    Stays r = Rests found r ⊎ Within (r .range)
 
     pub stays-sound : (r : Tracked) → Stays r → range-sound n (r .range) ≡ true
-    stays-sound r (inl h) = subst (λ x. range-sound n x ≡ true) (sym (h .1)) sound
+    stays-sound r (inl h) = subst (λ x. range-sound n x ≡ true) (sym (h .same)) sound
     stays-sound r (inr h) = within-sound (r .range) h
 
     stays-entered : (first : ℕ) (closing : Option ℕ) (r : Tracked) → If-some (λ t. 1 ≤ t) closing → Stays r → Stays (entered first closing r)
-    stays-entered first closing r b (inl h) =
-        let no = and-left (r .active) (ltb first (r .range .end)) (h .0) in
-        inl (no, reaching-not (stays first r) (record { down = closing; up = None }) (r .range) no ∙ h .1)
+    stays-entered first closing r b (inl h) = inl (rests-entered found first closing r h)
     stays-entered first closing r b (inr h) = inr (reaching-within (stays first r) (record { down = closing; up = None }) (r .range) (record { down = b; up = tt }) h)
 
     stays-placed : (own : Option Node) (number : ℕ) (r : Tracked) → If-some (Node-bound n) own → Stays r → Stays (placed own number r)
     stays-placed own number r b (inr h) = inr (reaching-within (contains (r .range) number && not (r .seen)) (node-reach own) (r .range) (node-reach-bound n own b) h)
     stays-placed own number r b (inl h) = elim (cases-bool (contains (r .range) number)) [
       | inl c ↦
-          let fits = sound-within (r .range) number (subst (λ x. range-sound n x ≡ true) (sym (h .1)) sound) c in
+          let fits = sound-within (r .range) number (subst (λ x. range-sound n x ≡ true) (sym (h .same)) sound) c in
           inr (reaching-within (contains (r .range) number && not (r .seen)) (node-reach own) (r .range) (node-reach-bound n own b) fits)
-      | inr c ↦
-          let no = and-left (contains (r .range) number) (not (r .seen)) c in
-          inl (or-from (r .active) (contains (r .range) number) (h .0) c, reaching-not (contains (r .range) number && not (r .seen)) (node-reach own) (r .range) no ∙ h .1)
+      | inr c ↦ inl (rests-placed found own number r c h)
     ]
 
     stays-stretched : (terminal : ℕ) (to : Reach) (r : Tracked) → Reach-bound n to → Stays r → Stays (stretched terminal to r)
-    stays-stretched terminal to r b (inl h) =
-        let no = and-left (r .active) (ltb terminal (r .range .end)) (h .0) in
-        inl (h .0, reaching-not (r .active && ltb terminal (r .range .end)) to (r .range) no ∙ h .1)
+    stays-stretched terminal to r b (inl h) = inl (rests-stretched found terminal to r h)
     stays-stretched terminal to r b (inr h) = inr (reaching-within (r .active && ltb terminal (r .range .end)) to (r .range) b h)
 
     stays-either : (b : Bool) (r s : Tracked) → Stays r → Stays s → Stays (cond b r s)

@@ -1,6 +1,5 @@
 -- What an align keeps, and what it makes of ranges that reach into a bracket.
 use mathlib.Core.Path.{_≡_}
-use mathlib.Core.List.{List}
 use Prim.Native.Nat.{ℕ, _≤_, _<_}
 use lib.ListN.{length}
 use Rattle.std.specs.declared.option.Option.the-variants.{Some}
@@ -34,7 +33,15 @@ Align-only-widens =
     align-walked f found counter ≡ Ok (counter′, left) →
     Widened found left × (counter ≤ counter′)
 
--- an align of tested rows leaves rows that pass too
+-- a scope that the function meets nowhere keeps its range
+abbrev pub Unmet-stay : Type 0
+Unmet-stay =
+    (f : HirFunction) (found left : Rows) (counter counter′ : ℕ) →
+    align-walked f found counter ≡ Ok (counter′, left) →
+    (scope : ℕ) → ((number : ℕ) → Met f found scope number → ⊥) →
+    scope-range (left .scopes) scope ≡ scope-range (found .scopes) scope
+
+-- where a function and its tables are sound, they are sound with the rows that an align leaves
 abbrev pub Align-keeps-sound : Type 0
 Align-keeps-sound =
     (f : HirFunction) (found left : Rows) (n counter counter′ : ℕ) →

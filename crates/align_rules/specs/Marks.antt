@@ -12,7 +12,6 @@ use Rattle.std.specs.declared.result.Result.the-variants.{Ok, Err}
 use Rattle.std.specs.shelf.Maps.{nth}
 use Rattle.hir_faults.specs.declared.fault.Envelope.{Envelope}
 use Rattle.hir_faults.specs.declared.fault.Fault.{Fault}
-use Rattle.hir_faults.specs.declared.fault.Place.{Place}
 use Rattle.hir_faults.specs.declared.fault.PassFault.{PassFault}
 use Rattle.hir_faults.specs.declared.fault.PassFault.the-variants.{SharedFallthrough, NoFallthrough, NoRangeId}
 use Rattle.hir_faults.specs.Faults.{of-pass, pass-faulted}
@@ -22,8 +21,8 @@ use Rattle.visitors.specs.Mentions.{terminal-fallthrough, terminal-successors}
 use Rattle.function_tests.specs.Steps.{then, unless, walked}
 use Rattle.align_rules.specs.Brackets.{Bracket, first-at, bracket-of}
 
--- what a value block belongs to, from a terminal's number to the first number of its fallthrough; it may run
--- backward
+-- the code that a value block is part of, from the number of a terminal to the first number of its fallthrough;
+-- where that stands before the terminal, the node runs backward
 pub record Node : Type 0 where
   pub start : ℕ
   pub end : ℕ
@@ -75,7 +74,7 @@ bracket-marked k b own m (Some x) =
       counter = counter;
     })))
 
--- the numbers of the kinds of blocks that never get a node from a terminal before them: Block and Catch
+-- a value block: of any kind but Block, 0, and Catch, 4
 abbrev row-value : Option BlockRow → Bool
 row-value None = false
 row-value (Some b) = not (eqb (b .kind) 0 || eqb (b .kind) 4)

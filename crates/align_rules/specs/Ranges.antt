@@ -1,5 +1,5 @@
 -- What the align walk does to the range of each scope. No scope looks at another.
-use mathlib.Core.Bool.{Bool, true, false, cond, not, _&&_, _||_}
+use mathlib.Core.Bool.{Bool, false, cond, not, _&&_, _||_}
 use mathlib.Core.List.{List, [], _∷_, map}
 use Prim.Native.Nat.{ℕ, min, max}
 use lib.Dec.{eqb, ltb}
@@ -18,7 +18,7 @@ use Rattle.rules.specs.Rows.{contains, identifier-scope}
 use Rattle.align_rules.specs.Brackets.{Bracket, bracket-of}
 use Rattle.align_rules.specs.Marks.{Node, Marks, node-at, closing-at, open-after}
 
--- a scope on the walk: its range so far, whether it is active, and whether it was active before
+-- a scope on the walk: its range so far, whether it is active, and whether any place has made it so yet
 pub record Tracked : Type 0 where
   pub range : MutableRange
   pub active : Bool
@@ -27,7 +27,7 @@ pub record Tracked : Type 0 where
 abbrev pub tracked : ScopeRow → Tracked
 tracked s = record { range = s .range; active = false; seen = false }
 
--- a start that is at most this number, an end that is at least this one; none asks for nothing
+-- a start no later than asked, an end no earlier than asked
 abbrev pub lowered : Option ℕ → ℕ → ℕ
 lowered None n = n
 lowered (Some least) n = min n least
@@ -36,7 +36,7 @@ abbrev pub raised : Option ℕ → ℕ → ℕ
 raised None n = n
 raised (Some most) n = max n most
 
--- how far ranges are to reach
+-- how far down and up ranges are to reach
 pub record Reach : Type 0 where
   pub down : Option ℕ
   pub up : Option ℕ
@@ -44,7 +44,7 @@ pub record Reach : Type 0 where
 abbrev pub nowhere : Reach
 nowhere = record { down = None; up = None }
 
--- the reach, where the test holds
+-- a range that reaches so far, where the test holds; a node that runs backward moves each end for itself
 abbrev pub only : {X : Type 0} → Bool → Option X → Option X
 only test o = cond test o None
 
@@ -95,7 +95,7 @@ goto = 3
 abbrev pub goto-target : List ℕ → BlockRow → Option ℕ
 goto-target ws b = cond (eqb (b .«terminal_kind») goto) (nth (terminal-successors ws b) 0) None
 
--- of the brackets that close at a block, the one that opened first
+-- of the brackets that close at the block k, the one that opened first
 abbrev pub or-else : {X : Type 0} → Option X → Option X → Option X
 or-else None o = o
 or-else (Some x) o = Some x
