@@ -85,14 +85,14 @@ module _ (f : HirFunction) (found : Rows) (n counter : ℕ) (numbered : Numbered
   numbers : (k : ℕ) (b : BlockRow) → nth (f .blocks) k ≡ Some b → Block-numbers (f .instructions) (f .blocks) k b
   numbers k b e = block-numbers-at (f .instructions) n (f .blocks) k b numbered e
 
-  pub known-in : (w : Walk) → Wide f from w → p < length (w .scopes)
+  pub known-in : (w : Walk) → Wide from w → p < length (w .scopes)
   known-in w h = let long = length-map (found .scopes) tracked in omega (arith, h .long, long)
 
   -- what a block makes of the scope
-  pub run-here : (k : ℕ) (w v : Walk) (b : BlockRow) → Step f ds k w b v → Wide f from w → at (v .scopes) p ≡ block-run f ds p k b (w .marks) (at (w .scopes) p)
+  pub run-here : (k : ℕ) (w v : Walk) (b : BlockRow) → Step f ds k w b v → Wide from w → at (v .scopes) p ≡ block-run f ds p k b (w .marks) (at (w .scopes) p)
   run-here k w v b s h = step-alone f ds p k w v b s .here (known-in w h)
 
-  pub gone-here : (k : ℕ) (w v : Walk) (b : BlockRow) → nth (f .blocks) k ≡ Some b → Step f ds k w b v → Wide f from w → at (w .scopes) p .range .end ≤ count k + 1 → at (v .scopes) p .range .end ≡ at (w .scopes) p .range .end
+  pub gone-here : (k : ℕ) (w v : Walk) (b : BlockRow) → nth (f .blocks) k ≡ Some b → Step f ds k w b v → Wide from w → at (w .scopes) p .range .end ≤ count k + 1 → at (v .scopes) p .range .end ≡ at (w .scopes) p .range .end
   gone-here k w v b e s h l =
       let c = numbers k b e in
       let last : count k + 1 ≤ b .«terminal_number» = omega (arith, c .last, c .next) in
@@ -100,7 +100,7 @@ module _ (f : HirFunction) (found : Rows) (n counter : ℕ) (numbered : Numbered
 
   -- it ended at or before the number e, and so it stays
   record Left (e k : ℕ) (w : Walk) : Type 0 where
-    wide : Wide f from w
+    wide : Wide from w
     ended : at (w .scopes) p .range .end ≤ e
     past : e ≤ count k
 
@@ -115,7 +115,7 @@ module _ (f : HirFunction) (found : Rows) (n counter : ℕ) (numbered : Numbered
         past = omega (arith, h .past, c .next);
       }
 
-  pub left-for-good : (e k : ℕ) (w end : Walk) → k ≤ length (f .blocks) → Stage f ds k w end → Wide f from w → at (w .scopes) p .range .end ≤ e → e ≤ count k → at (end .scopes) p .range .end ≤ e
+  pub left-for-good : (e k : ℕ) (w end : Walk) → k ≤ length (f .blocks) → Stage f ds k w end → Wide from w → at (w .scopes) p .range .end ≤ e → e ≤ count k → at (end .scopes) p .range .end ≤ e
   left-for-good e k w end l h wide ended past =
       climb-all f ds (Left e) (left-more e) (length (f .blocks) - k) k (omega arith) w end h (record { wide = wide; ended = ended; past = past }) .ended
 
@@ -136,7 +136,7 @@ module _ (f : HirFunction) (found : Rows) (n counter : ℕ) (numbered : Numbered
           high = subst (λ r. number < r .end) same high;
         }
 
-    met-here : (k : ℕ) (w v : Walk) (b : BlockRow) → nth (f .blocks) k ≡ Some b → Step f ds k w b v → Wide f from w → k ≡ met .position → at (v .scopes) p .active ≡ true
+    met-here : (k : ℕ) (w v : Walk) (b : BlockRow) → nth (f .blocks) k ≡ Some b → Step f ds k w b v → Wide from w → k ≡ met .position → at (v .scopes) p .active ≡ true
     met-here k w v b e s h same =
         let stands : nth (f .blocks) k ≡ Some (met .block) = ap (nth (f .blocks)) same ∙ met .stands in
         let row : met .block ≡ b = cc in
@@ -145,7 +145,7 @@ module _ (f : HirFunction) (found : Rows) (n counter : ℕ) (numbered : Numbered
         let inside = inside-wider (at (from .scopes) p) (at (w .scopes) p) number (h .wide p start) inside-found in
         ap (λ r. r .active) (run-here k w v b s h) ∙ met-block f ds p k b (w .marks) (at (w .scopes) p) number (met .identifier) place (met .has-scope) inside
 
-    known-more : (k : ℕ) (w v : Walk) (b : BlockRow) → nth (f .blocks) k ≡ Some b → Step f ds k w b v → Wide f from w → Known k (at (w .scopes) p) → Known (k + 1) (at (v .scopes) p)
+    known-more : (k : ℕ) (w v : Walk) (b : BlockRow) → nth (f .blocks) k ≡ Some b → Step f ds k w b v → Wide from w → Known k (at (w .scopes) p) → Known (k + 1) (at (v .scopes) p)
     known-more k w v b e s h (inl early) = elim (cases-eq k (met .position)) [
       | inl same ↦ inr (inl (met-here k w v b e s h same))
       | inr other ↦ inl (omega arith)
@@ -166,7 +166,7 @@ module _ (f : HirFunction) (found : Rows) (n counter : ℕ) (numbered : Numbered
         inr (inr (omega (arith, same, c .next)))
 
     pub record Followed (k : ℕ) (w : Walk) : Type 0 where
-      pub wide : Wide f from w
+      pub wide : Wide from w
       pub state : Known k (at (w .scopes) p)
 
     pub followed-more : (k : ℕ) (w v : Walk) (b : BlockRow) → nth (f .blocks) k ≡ Some b → Step f ds k w b v → Followed k w → Followed (k + 1) v
@@ -176,7 +176,7 @@ module _ (f : HirFunction) (found : Rows) (n counter : ℕ) (numbered : Numbered
     }
 
     pub followed-start : Followed 0 from
-    followed-start = record { wide = wide-start f from; state = inl (omega arith) }
+    followed-start = record { wide = wide-start from; state = inl (omega arith) }
 
     -- its block has only greater numbers than the blocks before
     met-number : count (met .position) < number
@@ -232,7 +232,7 @@ module _ (f : HirFunction) (found : Rows) (n counter : ℕ) (numbered : Numbered
           | inr (inr ended) ↦ no (omega arith)
         ]
 
-pub out-of-table : (f : HirFunction) (found : Rows) (counter p : ℕ) (end : Walk) → Wide f (walk-at-start f found counter) end → length (found .scopes) ≤ p → at (end .scopes) p .range .end ≡ 0
+pub out-of-table : (f : HirFunction) (found : Rows) (counter p : ℕ) (end : Walk) → Wide (walk-at-start f found counter) end → length (found .scopes) ≤ p → at (end .scopes) p .range .end ≡ 0
 out-of-table f found counter p end h l =
     let long = length-map (found .scopes) tracked in
     ap (λ r. r .range .end) (getD-past (end .scopes) p untracked (omega (arith, h .long, long)))

@@ -49,15 +49,15 @@ accepted f found left counter counter′ e =
     record { end = h .0; stage = h .1; ids = ap (λ x. x .0) pair; rows = ap (λ x. x .1) pair }
 
 -- no scope comes or goes, and each is at least as wide as before
-pub record Wide (f : HirFunction) (from w : Walk) : Type 0 where
+pub record Wide (from w : Walk) : Type 0 where
   pub ids : from .marks .counter ≤ w .marks .counter
   pub long : length (w .scopes) ≡ length (from .scopes)
   pub wide : (p : ℕ) → p < length (from .scopes) → Wider (at (from .scopes) p) (at (w .scopes) p)
 
-pub wide-start : (f : HirFunction) (from : Walk) → Wide f from from
-wide-start f from = record { ids = omega arith; long = refl; wide = λ p h. wider-same (at (from .scopes) p) }
+pub wide-start : (from : Walk) → Wide from from
+wide-start from = record { ids = omega arith; long = refl; wide = λ p h. wider-same (at (from .scopes) p) }
 
-pub wide-more : (f : HirFunction) (ds : List IdentifierRow) (from : Walk) (k : ℕ) (w v : Walk) (b : BlockRow) → nth (f .blocks) k ≡ Some b → Step f ds k w b v → Wide f from w → Wide f from v
+pub wide-more : (f : HirFunction) (ds : List IdentifierRow) (from : Walk) (k : ℕ) (w v : Walk) (b : BlockRow) → nth (f .blocks) k ≡ Some b → Step f ds k w b v → Wide from w → Wide from v
 wide-more f ds from k w v b e s h = record {
   ids = omega (arith, h .ids, s .ids);
   long = step-alone f ds 0 k w v b s .long ∙ h .long;
@@ -68,8 +68,8 @@ wide-more f ds from k w v b e s h = record {
       (subst (Wider (at (w .scopes) p)) (sym (step-alone f ds p k w v b s .here known)) (block-wider f ds p k b (w .marks) (at (w .scopes) p)));
 }
 
-pub wide-end : (f : HirFunction) (ds : List IdentifierRow) (d k : ℕ) → k + d ≡ length (f .blocks) → (w end : Walk) → Stage f ds k w end → Wide f w end
-wide-end f ds d k e w end h = climb-all f ds (λ _ v. Wide f w v) (wide-more f ds w) d k e w end h (wide-start f w)
+pub wide-end : (f : HirFunction) (ds : List IdentifierRow) (d k : ℕ) → k + d ≡ length (f .blocks) → (w end : Walk) → Stage f ds k w end → Wide w end
+wide-end f ds d k e w end h = climb-all f ds (λ _ v. Wide w v) (wide-more f ds w) d k e w end h (wide-start w)
 
 each-map : {X : Type 0} (R : X → X → Type 0) (g : X → X) → ((x : X) → R x (g x)) → (xs : List X) → Each R xs (map g xs)
 each-map R g h [] = tt
@@ -78,8 +78,8 @@ each-map R g h (x ∷ xs) = (h x, each-map R g h xs)
 kept : (found left : List ScopeRow) (d : IdentifierRow) → Identifier-kept d (synced found left d)
 kept found left d = record { range-id = refl; scope = refl; primitive = refl }
 
-range-wider : (from w : Walk) (f : HirFunction) (p : ℕ) → Wide f from w → Wider (at (from .scopes) p) (at (w .scopes) p)
-range-wider from w f p h = elim (cases-lt p (length (from .scopes))) [
+range-wider : (from w : Walk) (p : ℕ) → Wide from w → Wider (at (from .scopes) p) (at (w .scopes) p)
+range-wider from w p h = elim (cases-lt p (length (from .scopes))) [
   | inl l ↦ h .wide p l
   | inr l ↦
       let past : length (w .scopes) ≤ p = omega (arith, h .long) in
@@ -88,18 +88,18 @@ range-wider from w f p h = elim (cases-lt p (length (from .scopes))) [
       subst (λ r. Wider r (at (w .scopes) p)) (sym a) (subst (Wider untracked) (sym b) (wider-same untracked))
 ]
 
-widened : (found : Rows) (f : HirFunction) (counter : ℕ) (end : Walk) → Wide f (walk-at-start f found counter) end → Widened found (rows-left found (map scope-left (end .scopes)))
+widened : (found : Rows) (f : HirFunction) (counter : ℕ) (end : Walk) → Wide (walk-at-start f found counter) end → Widened found (rows-left found (map scope-left (end .scopes)))
 widened found f counter end h =
     let from = walk-at-start f found counter in
     record {
       scope-count = length-map (end .scopes) scope-left ∙ h .long ∙ length-map (found .scopes) tracked;
       identifier-count = length-map (found .identifiers) (synced (found .scopes) (map scope-left (end .scopes)));
       range-ids = λ p.
-          ap (λ r. r .id) (range-left (end .scopes) p) ∙ range-wider from end f p h .id ∙ sym (ap (λ r. r .id) (range-found (found .scopes) p));
+          ap (λ r. r .id) (range-left (end .scopes) p) ∙ range-wider from end p h .id ∙ sym (ap (λ r. r .id) (range-found (found .scopes) p));
       covers = λ p.
           let a = range-left (end .scopes) p in
           let b = range-found (found .scopes) p in
-          let c = range-wider from end f p h in
+          let c = range-wider from end p h in
           subst (λ r. Covers r (scope-range (found .scopes) p)) (sym a)
           (subst (Covers (at (end .scopes) p .range)) (sym b) (record { starts = c .start; ends = c .end }));
       identifiers-kept = each-map Identifier-kept (synced (found .scopes) (map scope-left (end .scopes))) (kept (found .scopes) (map scope-left (end .scopes))) (found .identifiers);

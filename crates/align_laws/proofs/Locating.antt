@@ -12,7 +12,7 @@ use Rattle.std.proofs.shelf.Elements.{all-append, all-map, all-weaker, all-has,
 use Rattle.react_compiler_hir.specs.declared.rows.BlockRow.{BlockRow}
 use Rattle.react_compiler_hir.specs.declared.rows.InstructionRow.{InstructionRow}
 use Rattle.react_compiler_hir.specs.Function.{HirFunction}
-use Rattle.visitors.specs.Mentions.{Mention, mentions, block-mentions, instructions-of, instruction-mentions, terminal-operands}
+use Rattle.visitors.specs.Mentions.{Mention, mentions, mentions-from, run-mentions, block-mentions, instructions-of, instruction-mentions, terminal-operands}
 use Rattle.rules.specs.Rows.{Rows, contains, identifier-scope, scope-range}
 use Rattle.align_rules.specs.Meets.{Met}
 
@@ -34,18 +34,8 @@ record Located (f : HirFunction) (x : Mention) : Type 0 where
   stands : nth (f .blocks) position ≡ Some block
   by : By-instruction f block (x .number) (x .identifier) ⊎ By-terminal f block (x .number) (x .identifier)
 
--- the recursions that `mentions` unfolds to
 abbrev mention : ℕ → ℕ → ℕ → ℕ → Mention
 mention block step number i = record { block = block; step = step; number = number; identifier = i }
-
-abbrev run-mentions : List ℕ → ℕ → ℕ → List InstructionRow → List Mention
-run-mentions ws block step [] = []
-run-mentions ws block step (r ∷ rs) =
-    map (mention block step (r .number)) (instruction-mentions ws r) ++ run-mentions ws block (step + 1) rs
-
-abbrev mentions-from : HirFunction → ℕ → List BlockRow → List Mention
-mentions-from f block [] = []
-mentions-from f block (b ∷ bs) = block-mentions f block b ++ mentions-from f (block + 1) bs
 
 module _ (f : HirFunction) where
   step-located : (block step number : ℕ) (is : List ℕ) → ((i : ℕ) → Has is i → Located f (mention block step number i)) → All (Located f) (map (mention block step number) is)

@@ -67,7 +67,7 @@ module _ (f : HirFunction) (found : Rows) (n counter : ℕ) (numbered : Numbered
   ds = found .identifiers
 
   record Keeps (k : ℕ) (w : Walk) : Type 0 where
-    wide : Wide f from w
+    wide : Wide from w
     bound : Marks-bound n (w .marks)
     stays : Stays n (at (from .scopes) p .range) sound (at (w .scopes) p)
 
@@ -88,7 +88,7 @@ module _ (f : HirFunction) (found : Rows) (n counter : ℕ) (numbered : Numbered
 
   keeps-start : Keeps 0 from
   keeps-start = record {
-    wide = wide-start f from;
+    wide = wide-start from;
     bound = marks-bound-start n (length (f .blocks)) counter;
     stays = inl (rests-start (found .scopes) p);
   }
@@ -102,7 +102,7 @@ module _ (f : HirFunction) (found : Rows) (n counter : ℕ) (sound : Sound f (fo
   abbrev left : Rows
   left = rows-left found (map scope-left (end .scopes))
 
-  wide : Wide f (walk-at-start f found counter) end
+  wide : Wide (walk-at-start f found counter) end
   wide = wide-end f (found .identifiers) (length (f .blocks)) 0 (omega arith) (walk-at-start f found counter) end stage
 
   scopes-long : length (left .scopes) ≡ length (found .scopes)

@@ -56,7 +56,7 @@ module _ (f : HirFunction) (found : Rows) (counter p : ℕ) (unmet : (number : �
       })) (mentions f) (all-has-itself (mentions f))
 
   record Untouched (w : Walk) : Type 0 where
-    wide : Wide f from w
+    wide : Wide from w
     rests : p < length (from .scopes) → Rests was (at (w .scopes) p)
 
   untouched-more : (k : ℕ) (w v : Walk) (b : BlockRow) → nth (f .blocks) k ≡ Some b → Step f ds k w b v → Untouched w → Untouched v
@@ -70,7 +70,7 @@ module _ (f : HirFunction) (found : Rows) (counter p : ℕ) (unmet : (number : �
 
   untouched : (end : Walk) → Stage f ds 0 from end → at (end .scopes) p .range ≡ was
   untouched end h =
-      let u = climb-all f ds (λ _ w. Untouched w) untouched-more (length (f .blocks)) 0 (omega arith) from end h (record { wide = wide-start f from; rests = λ _. rests-start (found .scopes) p }) in
+      let u = climb-all f ds (λ _ w. Untouched w) untouched-more (length (f .blocks)) 0 (omega arith) from end h (record { wide = wide-start from; rests = λ _. rests-start (found .scopes) p }) in
       elim (cases-lt p (length (from .scopes))) [
         | inl l ↦ u .rests l .same
         | inr l ↦ ap (λ r. r .range) (getD-past (end .scopes) p untracked (omega (arith, u .wide .long)) ∙ sym (getD-past (from .scopes) p untracked l))
