@@ -1,5 +1,6 @@
 // An inner crate: lists that stay sorted, over lent rows, for entries of any type that says which of two goes before.
 // No method asks anything of its caller: `entries` says what an agenda holds, whatever its numbers are.
+#![tactic(auto)]
 ghost use Rattle.std.specs.Prelude.{◌≡◌, ℕ, ◌<◌, ◌≤◌, Bool, true, false, not, List, [], ◌∷◌, length, IfSome, if◌then◌else◌, MatchOption, ◌≢◌, nat_lt};
 ghost use Rattle.std.specs.List.{AllByRecursion as All};
 ghost use Rattle.std.specs.List.Sorted.{IsPermutation};

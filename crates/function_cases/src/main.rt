@@ -2,6 +2,7 @@
 // be read, as a record. Standard input has the functions as listings, each after a line
 // `case NAME`, `case NAME align WORDS` or `case NAME merge WORDS OPENINGS CLOSINGS ROOTS`; without
 // a memory it gets exactly enough. A line `repeat N LINE` stands for N lines.
+#![tactic(auto)]
 mod cases;
 mod verdict;
 

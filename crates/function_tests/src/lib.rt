@@ -1,4 +1,5 @@
 // The tests that both passes make before they change anything. An inner crate.
+#![tactic(auto)]
 mod memory;
 mod places;
 mod ranges;

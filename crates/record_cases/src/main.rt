@@ -1,5 +1,6 @@
 // Runs many records through `check`, `open` and `load`, and prints a line for each. A small listing
 // on standard input gives the record that most cases are made from.
+#![tactic(auto)]
 mod cases;
 mod checksum;
 mod limits;

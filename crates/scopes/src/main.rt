@@ -1,4 +1,5 @@
 // Prints the records that it is given; `scopes --help` says how.
+#![tactic(auto)]
 use anyhow::anyhow;
 use scopes_cli::report;
 use std::env;

@@ -1,4 +1,5 @@
 // The work of the program `scopes`, apart from its `main`: reads records and prints what they hold.
+#![tactic(auto)]
 mod columns;
 mod inspection;
 mod options;
