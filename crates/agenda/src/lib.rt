@@ -1,6 +1,7 @@
 // An inner crate: lists that stay sorted, over lent rows, for entries of any type that says which of two goes before.
 // No method asks anything of its caller: `entries` says what an agenda holds, whatever its numbers are.
 #![tactic(auto)]
+
 ghost use Rattle.std.specs.Prelude.{◌≡◌, ℕ, ◌<◌, ◌≤◌, Bool, true, false, not, List, [], ◌∷◌, length, IfSome, if◌then◌else◌, MatchOption, ◌≢◌, nat_lt};
 ghost use Rattle.std.specs.List.{AllByRecursion as All};
 ghost use Rattle.std.specs.List.Sorted.{IsPermutation};
@@ -63,9 +64,9 @@ impl<E: Entry> Agenda<'_, E> {
     // Adds an entry behind the last one that it does not go before. Where no row is free, it answers false and stays as it is.
     pub fn add(&mut self, added: E) -> bool
         ensures is { result ≡ nat_lt (length (entries self.old)) (length self.old.rows.now) }
-        ensures entries { entries self.new ≡ (if result then insert before added (entries self.old) else entries self.old) }
+        ensures entries { entries self.new ≡ (if result then insert E.before added (entries self.old) else entries self.old) }
         ensures full { result ≡ false → self.new ≡ self.old }
-        ensures ordered { Ordered before (entries self.old) → Ordered before (entries self.new) }
+        ensures ordered { Ordered E.before (entries self.old) → Ordered E.before (entries self.new) }
         ensures same { IsPermutation (if result then added ∷ entries self.old else entries self.old) (entries self.new) }
         ensures room { length self.new.rows.now ≡ length self.old.rows.now }
     {
@@ -80,7 +81,7 @@ impl<E: Entry> Agenda<'_, E> {
     // Takes out the first entry. It costs the same however many there are.
     pub fn take_first(&mut self) -> Option<E>
         ensures is { MatchOption result ((entries self.old ≡ []) × (entries self.new ≡ [])) (λ e. entries self.old ≡ e ∷ entries self.new) }
-        ensures first { IfSome result (λ e. (Ordered before (entries self.old) → All (λ y. before y e ≡ false) (entries self.new) × Ordered before (entries self.new))) }
+        ensures first { IfSome result (λ e. (Ordered E.before (entries self.old) → All (λ y. E.before y e ≡ false) (entries self.new) × Ordered E.before (entries self.new))) }
         ensures rows { self.new.rows.now ≡ self.old.rows.now }
     {
         if self.len() == 0 {
@@ -126,7 +127,7 @@ impl<E: Entry> Agenda<'_, E> {
     fn place(&mut self, added: E)
         requires low { self.old.head ≤ self.old.tail }
         requires high { self.old.tail < length self.old.rows.now }
-        ensures entries { entries self.new ≡ insert before added (entries self.old) }
+        ensures entries { entries self.new ≡ insert E.before added (entries self.old) }
         ensures room { length self.new.rows.now ≡ length self.old.rows.now }
     {
         let mut i = self.tail;
@@ -226,7 +227,7 @@ impl Entry for ClosingEntry {
 
 // What an agenda holds after entries were added to an empty one.
 pub fn sorting_stands<E: Entry>() -> u8
-    ensures { Sorts {X = E} before }
+    ensures { Sorts {X = E} E.before }
 {
     0
 }

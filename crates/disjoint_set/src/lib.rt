@@ -2,6 +2,7 @@
 // Its methods ask for words in which every climb ends, and for items that have a word; a reset gives such words,
 // and every method keeps them so.
 #![tactic(auto)]
+
 ghost use Rattle.std.specs.Prelude.{◌≡◌, ℕ, ◌^◌, ◌<◌, ◌≤◌, length};
 ghost use Rattle.std.specs.List.{AllByRecursion as All};
 ghost use Rattle.disjoint_set.specs.Forest.{Forest, root, apart, compressed};

@@ -1,6 +1,7 @@
 // A function and its two tables as one record of bytes: checked, opened as a source, and loaded.
 // An inner crate.
 #![tactic(auto)]
+
 mod bytes;
 mod checking;
 mod counts;

@@ -21,7 +21,7 @@ returns g c =
     let added = c.args.added in
     let long = length_part c.args.self.now.rows.now c.args.self.now.head c.args.self.now.tail in
     let free : length was < length c.args.self.now.rows.now = omega (arith, long, c.len.ensures, c.if-len-self.false) in
-    let is : entries c.place.new.self ≡ insert lt added was = c.place.ensures.entries ∙ ap (insert lt added) c.make-room.ensures.entries in
+    let is : entries c.place.new.self ≡ insert lt added was = c.place.ensures.entries ∙ ap (insert lt added) c.make_room.ensures.entries in
     let order = lawful g.E.Entry.compared lt law.agree law.one law.transitive in
     record {
       is = sym (lt-ltb (length was) (length c.args.self.now.rows.now) free);
@@ -29,5 +29,5 @@ returns g c =
       full = search rules;
       ordered = λ o. subst (λ z. Ordered lt z) (sym is) (insert_ordered lt added order was o);
       same = subst (λ z. IsPermutation (added ∷ was) z) (sym is) (insert_shuffled lt added was);
-      room = c.place.ensures.room ∙ c.make-room.ensures.room;
+      room = c.place.ensures.room ∙ c.make_room.ensures.room;
     }

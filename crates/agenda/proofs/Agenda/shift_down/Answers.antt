@@ -22,8 +22,8 @@ returns g c =
     let h = c.args.self.now.head in
     let n = c.args.self.now.tail in
     let front : take c.len-count.result ys ≡ entries c.args.self.now = elim c.if-count-gt0.branch [
-      | then-count-gt0 w ↦ rw w.self-is (part_moved xs h n _ c.len-count.result c.len-count.ensures w.copy-within.ensures.after)
+      | then-count-gt0 w ↦ rw w.self-is (part_moved xs h n _ c.len-count.result c.len-count.ensures w.copy_within.ensures.after)
       | else-count-gt0 w ↦ part_none xs h n ys c.len-count.result c.len-count.ensures w.if-count-gt0.false
     ] in
-    let room : length ys ≡ length xs = elim c.if-count-gt0.branch [ then-count-gt0 w ↦ rw w.self-is w.copy-within.ensures.len | else-count-gt0 w ↦ rw w.self-is ] in
+    let room : length ys ≡ length xs = elim c.if-count-gt0.branch [ then-count-gt0 w ↦ rw w.self-is w.copy_within.ensures.len | else-count-gt0 w ↦ rw w.self-is ] in
     record { entries = front; head = search rules; tail = c.len-count.ensures; room = room }

@@ -6,5 +6,5 @@ use Rattle.hir_record.proofs.checking.check.Goals as goal
 pub returns : goal.returns
 returns c =
     let bs = c.args.bytes.now in
-    c.check-counts.ensures ∙ ap (counted (length bs)) (c.read-counts.ensures ∙ counts_of_rest bs) ∙
+    c.check_counts.ensures ∙ ap (counted (length bs)) (c.read_counts.ensures ∙ counts_of_rest bs) ∙
     sym (checked_counts bs (search rules) (search rules) (search rules) (search rules) (search rules))

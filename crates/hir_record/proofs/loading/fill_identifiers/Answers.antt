@@ -5,6 +5,6 @@ use Rattle.hir_record.proofs.loading.fill_identifiers.Goals as goal
 
 pub loop-i-preserved : goal.loop-i-preserved
 loop-i-preserved c =
-    c.put-identifier.ensures ∙
+    c.put_identifier.ensures ∙
     fill_more (identifier_at c.args.bytes.now) c.args.start 20 c.loop-i.i c.args.identifiers.now _ (search rules)
     c.loop-i.invariant

@@ -5,6 +5,6 @@ use Rattle.hir_record.proofs.loading.fill_scopes.Goals as goal
 
 pub loop-i-preserved : goal.loop-i-preserved
 loop-i-preserved c =
-    c.put-scope.ensures ∙
+    c.put_scope.ensures ∙
     fill_more (scope_at c.args.bytes.now) c.args.start 12 c.loop-i.i c.args.scopes.now _ (search rules)
     c.loop-i.invariant
