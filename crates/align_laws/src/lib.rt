@@ -1,5 +1,6 @@
 // What an align keeps, and how it fits ranges to brackets. An inner crate of theorems.
 #![tactic(auto)]
+
 ghost use Rattle.align_laws.specs.Laws.{AlignOnlyWidens, UnmetStay, AlignKeepsSound, BracketEnds, BracketStarts};
 
 pub fn align_only_widens() -> u8

@@ -1,5 +1,6 @@
 // What any list of calls of the two passes keeps, and the small cases. An inner crate of theorems.
 #![tactic(auto)]
+
 ghost use Rattle.calls.specs.Kept.{KeptOverCalls};
 ghost use Rattle.calls.specs.Cases.{TenCasesHold};
 

@@ -1,5 +1,6 @@
 // What the tests before a pass say of a function that passes them. An inner crate of theorems.
 #![tactic(auto)]
+
 ghost use Rattle.function_laws.specs.Laws.{PassingIsSound, BlocksFollow};
 
 pub fn passing_is_sound() -> u8

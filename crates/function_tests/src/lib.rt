@@ -1,5 +1,6 @@
 // The tests that both passes make before they change anything. An inner crate.
 #![tactic(auto)]
+
 mod memory;
 mod places;
 mod ranges;

@@ -20,7 +20,7 @@ fn instruction_sound<S: Source>(
     scopes: &[ScopeRow],
     identifiers: &[IdentifierRow],
 ) -> bool
-    ensures { result ≡ instruction_sound last scopes.now identifiers.now (words source.now) row.now }
+    ensures { result ≡ instruction_sound last scopes.now identifiers.now (S.words source.now) row.now }
 {
     names_sound(row.lvalue, last, scopes, identifiers)
         && part_sound(source, targets(row), last, scopes, identifiers)
@@ -35,7 +35,7 @@ fn reach_run<S: Source>(
     scopes: &[ScopeRow],
     identifiers: &[IdentifierRow],
 ) -> Result<(), Envelope<Fault>>
-    ensures { result ≡ run_ranged tag (hir_function (blocks source.now) (instructions source.now) (words source.now)) scopes.now identifiers.now last block (instructions_of (instructions source.now) row.now) }
+    ensures { result ≡ run_ranged S.tag (hir_function (S.blocks source.now) (S.instructions source.now) (S.words source.now)) scopes.now identifiers.now last block (instructions_of (S.instructions source.now) row.now) }
 {
     for step in 0..row.instruction_count {
         let Some(instruction) = source.instruction(row.first_instruction as usize + step as usize)
@@ -58,7 +58,7 @@ fn reach_block<S: Source>(
     scopes: &[ScopeRow],
     identifiers: &[IdentifierRow],
 ) -> Result<(), Envelope<Fault>>
-    ensures { result ≡ block_ranged tag (hir_function (blocks source.now) (instructions source.now) (words source.now)) scopes.now identifiers.now last block tt row.now }
+    ensures { result ≡ block_ranged S.tag (hir_function (S.blocks source.now) (S.instructions source.now) (S.words source.now)) scopes.now identifiers.now last block tt row.now }
 {
     reach_run(source, row, block, last, scopes, identifiers)?;
     if part_sound(source, operands(row), last, scopes, identifiers) {
@@ -79,8 +79,8 @@ pub fn reach_blocks<S: Source>(
     scopes: &[ScopeRow],
     identifiers: &[IdentifierRow],
 ) -> Result<(), Envelope<Fault>>
-    requires { length (blocks source.now) ≤ 1024 }
-    ensures { result ≡ blocks_ranged tag (hir_function (blocks source.now) (instructions source.now) (words source.now)) scopes.now identifiers.now last (blocks source.now) }
+    requires { length (S.blocks source.now) ≤ 1024 }
+    ensures { result ≡ blocks_ranged S.tag (hir_function (S.blocks source.now) (S.instructions source.now) (S.words source.now)) scopes.now identifiers.now last (S.blocks source.now) }
 {
     for i in 0..source.block_count() {
         let Some(row) = source.block(i) else {

@@ -42,7 +42,7 @@ fn ends_within(start: u32, first: u32, second: u32, length: usize) -> bool
 }
 
 pub fn instruction_fits<S: Source>(source: &S, row: &InstructionRow) -> bool
-    ensures { result ≡ instruction_fits (hir_function (blocks source.now) (instructions source.now) (words source.now)) row.now }
+    ensures { result ≡ instruction_fits (hir_function (S.blocks source.now) (S.instructions source.now) (S.words source.now)) row.now }
 {
     instruction_shaped(row)
         && ends_within(
@@ -54,7 +54,7 @@ pub fn instruction_fits<S: Source>(source: &S, row: &InstructionRow) -> bool
 }
 
 pub fn block_fits<S: Source>(source: &S, row: &BlockRow) -> bool
-    ensures { result ≡ block_fits (hir_function (blocks source.now) (instructions source.now) (words source.now)) row.now }
+    ensures { result ≡ block_fits (hir_function (S.blocks source.now) (S.instructions source.now) (S.words source.now)) row.now }
 {
     row.kind < BlockKind::COUNT
         && terminal_shaped(row)
@@ -75,7 +75,7 @@ pub fn block_fits<S: Source>(source: &S, row: &BlockRow) -> bool
 // Whether every word of a part is a position below the limit. A part that leaves the words ends
 // with them.
 pub fn part_below<S: Source>(source: &S, part: Part, limit: usize) -> bool
-    ensures { result ≡ all_below limit (words_of (words source.now) part) }
+    ensures { result ≡ all_below limit (words_of (S.words source.now) part) }
 {
     for i in 0..part.count {
         let Some(word) = source.word(part.start as usize + part.skip as usize + i as usize) else {
@@ -89,7 +89,7 @@ pub fn part_below<S: Source>(source: &S, part: Part, limit: usize) -> bool
 }
 
 pub fn instruction_known<S: Source>(source: &S, row: &InstructionRow, identifiers: usize) -> bool
-    ensures { result ≡ instruction_known (hir_function (blocks source.now) (instructions source.now) (words source.now)) identifiers row.now }
+    ensures { result ≡ instruction_known (hir_function (S.blocks source.now) (S.instructions source.now) (S.words source.now)) identifiers row.now }
 {
     (row.lvalue as usize) < identifiers
         && part_below(source, targets(row), identifiers)
@@ -97,7 +97,7 @@ pub fn instruction_known<S: Source>(source: &S, row: &InstructionRow, identifier
 }
 
 pub fn block_known<S: Source>(source: &S, row: &BlockRow, identifiers: usize) -> bool
-    ensures { result ≡ block_known (hir_function (blocks source.now) (instructions source.now) (words source.now)) identifiers row.now }
+    ensures { result ≡ block_known (hir_function (S.blocks source.now) (S.instructions source.now) (S.words source.now)) identifiers row.now }
 {
     part_below(source, operands(row), identifiers)
         && part_below(source, successors(row), source.block_count())

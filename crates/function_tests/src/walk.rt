@@ -34,7 +34,7 @@ fn test_instruction<S: Source>(
     walked: u32,
     identifiers: usize,
 ) -> Result<u32, Envelope<Fault>>
-    ensures { result ≡ instruction_tested tag (hir_function (blocks source.now) (instructions source.now) (words source.now)) identifiers block step walked row.now }
+    ensures { result ≡ instruction_tested S.tag (hir_function (S.blocks source.now) (S.instructions source.now) (S.words source.now)) identifiers block step walked row.now }
 {
     let kind = source.source_kind();
     if !instruction_fits(source, row) {
@@ -52,7 +52,7 @@ fn test_block<S: Source>(
     block: u32,
     identifiers: usize,
 ) -> Result<(), Envelope<Fault>>
-    ensures { result ≡ block_tested tag (hir_function (blocks source.now) (instructions source.now) (words source.now)) identifiers block row.now }
+    ensures { result ≡ block_tested S.tag (hir_function (S.blocks source.now) (S.instructions source.now) (S.words source.now)) identifiers block row.now }
 {
     let kind = source.source_kind();
     if !block_fits(source, row) {
@@ -72,7 +72,7 @@ fn walk_run<S: Source>(
     before: u32,
     identifiers: usize,
 ) -> Result<u32, Envelope<Fault>>
-    ensures { result ≡ run_walked tag (hir_function (blocks source.now) (instructions source.now) (words source.now)) identifiers block before (instructions_of (instructions source.now) row.now) }
+    ensures { result ≡ run_walked S.tag (hir_function (S.blocks source.now) (S.instructions source.now) (S.words source.now)) identifiers block before (instructions_of (S.instructions source.now) row.now) }
 {
     let mut walked = before;
     for step in 0..row.instruction_count {
@@ -92,7 +92,7 @@ fn walk_block<S: Source>(
     before: u32,
     identifiers: usize,
 ) -> Result<u32, Envelope<Fault>>
-    ensures { result ≡ block_walked tag (hir_function (blocks source.now) (instructions source.now) (words source.now)) identifiers block before row.now }
+    ensures { result ≡ block_walked S.tag (hir_function (S.blocks source.now) (S.instructions source.now) (S.words source.now)) identifiers block before row.now }
 {
     test_block(source, row, block, identifiers)?;
     let walked = walk_run(source, row, block, before, identifiers)?;
@@ -107,8 +107,8 @@ fn walk_block<S: Source>(
 
 // Walks all blocks, and answers how many numbers there are.
 pub fn walk_blocks<S: Source>(source: &S, identifiers: usize) -> Result<u32, Envelope<Fault>>
-    requires { length (blocks source.now) ≤ 1024 }
-    ensures { result ≡ blocks_walked tag (hir_function (blocks source.now) (instructions source.now) (words source.now)) identifiers (blocks source.now) }
+    requires { length (S.blocks source.now) ≤ 1024 }
+    ensures { result ≡ blocks_walked S.tag (hir_function (S.blocks source.now) (S.instructions source.now) (S.words source.now)) identifiers (S.blocks source.now) }
 {
     let mut walked = 0;
     for i in 0..source.block_count() {

@@ -8,8 +8,8 @@ use Rattle.agenda.proofs.Insertions.{insert_ordered, insert_shuffled}
 use Rattle.agenda.proofs.Rows.{length_part}
 use Rattle.agenda.proofs.Agenda.add.Goals as goal
 
-pub make-room-requires : goal.make-room-requires
-make-room-requires g c =
+pub make_room-requires : goal.make_room-requires
+make_room-requires g c =
     let long = length_part c.args.self.now.rows.now c.args.self.now.head c.args.self.now.tail in
     omega (arith, long, c.len.ensures, c.if-len-self.false)
 

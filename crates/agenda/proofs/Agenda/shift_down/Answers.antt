@@ -4,13 +4,13 @@ use Rattle.agenda.proofs.Rows.{length_part, part_moved, part_none}
 use Rattle.agenda.proofs.Agenda.shift_down.Goals as goal
 use Rattle.agenda.proofs.Agenda.shift_down.Goals.{then-count-gt0, else-count-gt0}
 
-pub copy-within-requires : goal.copy-within-requires
-copy-within-requires g c =
+pub copy_within-requires : goal.copy_within-requires
+copy_within-requires g c =
     let long = length_part c.args.self.now.rows.now c.args.self.now.head c.args.self.now.tail in
-    record { start-le-end = omega arith; in_bounds = omega (arith, long, c.len-count.ensures, c.if-count-gt0.true); dest-in-bounds = omega (arith, long, c.len-count.ensures, c.if-count-gt0.true); not-exhausted = tt }
+    record { start_le_end = omega arith; in_bounds = omega (arith, long, c.len-count.ensures, c.if-count-gt0.true); dest_in_bounds = omega (arith, long, c.len-count.ensures, c.if-count-gt0.true); not_exhausted = tt }
 
-pub overflow-add-head : goal.overflow-add-head
-overflow-add-head g c =
+pub overflow_add-head : goal.overflow_add-head
+overflow_add-head g c =
     let long = length_part c.args.self.now.rows.now c.args.self.now.head c.args.self.now.tail in
     let fits : c.args.self.now.head + c.len-count.result ≤ length c.args.self.now.rows.now = omega (arith, long, c.len-count.ensures, c.if-count-gt0.true) in
     search rules

@@ -14,11 +14,11 @@ bounds-self-self g c =
     let some : 0 < length (entries c.args.self.now) = omega (arith, c.len.ensures, c.if-len-eq0.false) in
     (part_within _ _ _ some).1
 
-pub offset-bounds-self-self : goal.offset-bounds-self-self
-offset-bounds-self-self g c = search (rules, bounds-self-self g c)
+pub offset_bounds-self-self : goal.offset_bounds-self-self
+offset_bounds-self-self g c = search (rules, bounds-self-self g c)
 
-pub overflow-add-self : goal.overflow-add-self
-overflow-add-self g c =
+pub overflow_add-self : goal.overflow_add-self
+overflow_add-self g c =
     let some : 0 < length (entries c.args.self.now) = omega (arith, c.len.ensures, c.if-len-eq0.false) in
     let within : c.args.self.now.head < length c.args.self.now.rows.now = (part_within _ c.args.self.now.head c.args.self.now.tail some).1 in
     search rules

@@ -3,12 +3,12 @@ use Rattle.function_tests.specs.Ranges.{names_sound}
 use Rattle.function_tests.proofs.Alls.{part_more, part_failed, part_ended, part_passed}
 use Rattle.function_tests.proofs.ranges.part_sound.Goals as goal
 
-pub returns-in-default : goal.returns-in-default
-returns-in-default g c =
-    part_ended (names_sound c.args.last c.args.scopes.now c.args.identifiers.now) (g.S.Source.words c.args.source.now) (c.args.part.start + c.args.part.skip) c.args.part.count c.loop-i.i c.loop-i.invariant (search rules) c.in-default.ensures
+pub returns-in_default : goal.returns-in_default
+returns-in_default g c =
+    part_ended (names_sound c.args.last c.args.scopes.now c.args.identifiers.now) (g.S.Source.words c.args.source.now) (c.args.part.start + c.args.part.skip) c.args.part.count c.loop-i.i c.loop-i.invariant (search rules) c.in_default.ensures
 
-pub returns-then-not-names-sound : goal.returns-then-not-names-sound
-returns-then-not-names-sound g c =
+pub returns-then-not-names_sound : goal.returns-then-not-names_sound
+returns-then-not-names_sound g c =
     part_failed (names_sound c.args.last c.args.scopes.now c.args.identifiers.now) (g.S.Source.words c.args.source.now) (c.args.part.start + c.args.part.skip) c.args.part.count c.loop-i.i c.loop-i.invariant _ (search rules) c.in-Some.ensures (search rules)
 
 pub loop-i-preserved : goal.loop-i-preserved

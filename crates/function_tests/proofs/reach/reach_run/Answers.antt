@@ -7,12 +7,12 @@ use Rattle.function_tests.proofs.Sounds.{mentions_sound}
 use Rattle.function_tests.proofs.Walking.{walked_more, walked_failed, walked_ended, walked_passed}
 use Rattle.function_tests.proofs.reach.reach_run.Goals as goal
 
-pub returns-in-default : goal.returns-in-default
-returns-in-default g c =
-    walked_ended (instruction_ranged g.S.Source.tag (hir_function (g.S.Source.blocks c.args.source.now) (g.S.Source.instructions c.args.source.now) (g.S.Source.words c.args.source.now)) c.args.scopes.now c.args.identifiers.now c.args.last c.args.block) (instructions_of (g.S.Source.instructions c.args.source.now) c.args.row.now) c.loop-step.step tt _ c.loop-step.invariant (c.in-default.ensures ∙ nth_part (g.S.Source.instructions c.args.source.now) c.args.row.now.first_instruction c.args.row.now.instruction_count c.loop-step.step c.loop-step-test.true)
+pub returns-in_default : goal.returns-in_default
+returns-in_default g c =
+    walked_ended (instruction_ranged g.S.Source.tag (hir_function (g.S.Source.blocks c.args.source.now) (g.S.Source.instructions c.args.source.now) (g.S.Source.words c.args.source.now)) c.args.scopes.now c.args.identifiers.now c.args.last c.args.block) (instructions_of (g.S.Source.instructions c.args.source.now) c.args.row.now) c.loop-step.step tt _ c.loop-step.invariant (c.in_default.ensures ∙ nth_part (g.S.Source.instructions c.args.source.now) c.args.row.now.first_instruction c.args.row.now.instruction_count c.loop-step.step c.loop-step-test.true)
 
-pub returns-then-not-instruction-sound : goal.returns-then-not-instruction-sound
-returns-then-not-instruction-sound g c =
+pub returns-then-not-instruction_sound : goal.returns-then-not-instruction_sound
+returns-then-not-instruction_sound g c =
     walked_failed (instruction_ranged g.S.Source.tag (hir_function (g.S.Source.blocks c.args.source.now) (g.S.Source.instructions c.args.source.now) (g.S.Source.words c.args.source.now)) c.args.scopes.now c.args.identifiers.now c.args.last c.args.block) (instructions_of (g.S.Source.instructions c.args.source.now) c.args.row.now) c.loop-step.step tt _ c.loop-step.invariant _ _ (c.in-Some.ensures ∙ nth_part (g.S.Source.instructions c.args.source.now) c.args.row.now.first_instruction c.args.row.now.instruction_count c.loop-step.step c.loop-step-test.true) (let m = mentions_sound c.args.last c.args.scopes.now c.args.identifiers.now (g.S.Source.words c.args.source.now) c.in-Some.instruction in search rules)
 
 pub loop-step-preserved : goal.loop-step-preserved

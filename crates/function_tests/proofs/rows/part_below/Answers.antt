@@ -3,9 +3,9 @@ use Rattle.std.proofs.lemmas.Bool.{lt-ltb, le-ltb}
 use Rattle.function_tests.proofs.Alls.{part_more, part_failed, part_ended, part_passed}
 use Rattle.function_tests.proofs.rows.part_below.Goals as goal
 
-pub returns-in-default : goal.returns-in-default
-returns-in-default g c =
-    part_ended (λ w. ltb w c.args.limit) (g.S.Source.words c.args.source.now) (c.args.part.start + c.args.part.skip) c.args.part.count c.loop-i.i c.loop-i.invariant (search rules) c.in-default.ensures
+pub returns-in_default : goal.returns-in_default
+returns-in_default g c =
+    part_ended (λ w. ltb w c.args.limit) (g.S.Source.words c.args.source.now) (c.args.part.start + c.args.part.skip) c.args.part.count c.loop-i.i c.loop-i.invariant (search rules) c.in_default.ensures
 
 pub returns-then-word-limit : goal.returns-then-word-limit
 returns-then-word-limit g c =
