@@ -80,7 +80,7 @@ impl Row for IdentifierRow {
 
 // Appends rows to a record, one after another.
 pub fn put_rows<R: Row>(out: &mut Vec<u8>, items: &[R]) -> Result<(), AllocError>
-    ensures { OnOk result (out.new.items ≡ out.old.items ++ rows words items.now) }
+    ensures { OnOk result (out.new.items ≡ out.old.items ++ rows R.words items.now) }
 {
     for item in items {
         item.put(out)?;

@@ -7,7 +7,7 @@ pub loop-item-preserved : goal.loop-item-preserved
 loop-item-preserved g c =
     flat_more (λ x. bytes (g.R.Row.words x)) c.args.items.now c.loop-item.item-index c.item-item.result
     c.item-item.result _ (vec_items c.loop-item.out) _ _ (search rules) c.item-item.is c.loop-item.invariant
-    c.in-ok-put.ensures refl
+    c.in_ok-put.ensures refl
 
 pub returns : goal.returns
 returns g c =

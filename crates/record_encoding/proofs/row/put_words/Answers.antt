@@ -6,8 +6,8 @@ use Rattle.record_encoding.proofs.row.put_words.Goals as goal
 pub loop-word-preserved : goal.loop-word-preserved
 loop-word-preserved c =
     flat_more word_bytes c.args.words.now c.loop-word.word-index (get_or c.args.words.now c.loop-word.word-index 0)
-    0 _ (vec_items c.loop-word.out) c.to-be-bytes.result _ (search rules) refl c.loop-word.invariant
-    c.in-ok-extend-from-slice.ensures.items c.to-be-bytes.ensures
+    0 _ (vec_items c.loop-word.out) c.to_be_bytes.result _ (search rules) refl c.loop-word.invariant
+    c.in_ok-extend_from_slice.ensures.items c.to_be_bytes.ensures
 
 pub returns : goal.returns
 returns c =

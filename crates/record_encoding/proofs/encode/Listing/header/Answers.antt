@@ -4,5 +4,5 @@ use Rattle.record_encoding.proofs.encode.Listing.header.Goals as goal
 
 pub returns : goal.returns
 returns c =
-    c.in-ok-put-words.ensures ∙ ap (λ o. o ++ bytes c.in-ok-counts.counts) c.in-ok-out.ensures ∙
-    ap (λ cs. opening ++ bytes cs) c.in-ok-counts.ensures
+    c.in_ok-put_words.ensures ∙ ap (λ o. o ++ bytes c.in_ok-counts.counts) c.in_ok-out.ensures ∙
+    ap (λ cs. opening ++ bytes cs) c.in_ok-counts.ensures
