@@ -1,5 +1,6 @@
 // A fault as text: one line for a person, and the same facts as words for a program.
 #![tactic(auto)]
+
 use hir_faults::{Envelope, Fault, FunctionFault, Layer, PassFault, RecordFault};
 use std::fmt;
 

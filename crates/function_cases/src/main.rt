@@ -3,6 +3,7 @@
 // `case NAME`, `case NAME align WORDS` or `case NAME merge WORDS OPENINGS CLOSINGS ROOTS`; without
 // a memory it gets exactly enough. A line `repeat N LINE` stands for N lines.
 #![tactic(auto)]
+
 mod cases;
 mod verdict;
 

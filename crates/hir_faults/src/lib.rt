@@ -1,5 +1,6 @@
 // The faults that every layer gives, and the envelope that carries one up. An inner crate.
 #![tactic(auto)]
+
 mod fault;
 
 pub use fault::{Envelope, Fault, FunctionFault, Layer, PassFault, Place, RecordFault};

@@ -1,6 +1,7 @@
 // Makes a record from a readable listing: `make_record [FILE]`. The listing is read from the file,
 // or from standard input, and the record's bytes go to standard output.
 #![tactic(auto)]
+
 use anyhow::anyhow;
 use listing::record_of;
 use std::io::Write;

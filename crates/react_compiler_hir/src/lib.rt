@@ -1,5 +1,6 @@
 // Rows, kinds and sources: what every layer above speaks of. An inner crate.
 #![tactic(auto)]
+
 mod kinds;
 mod rows;
 mod source;

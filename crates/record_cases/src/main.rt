@@ -1,6 +1,7 @@
 // Runs many records through `check`, `open` and `load`, and prints a line for each. A small listing
 // on standard input gives the record that most cases are made from.
 #![tactic(auto)]
+
 mod cases;
 mod checksum;
 mod limits;

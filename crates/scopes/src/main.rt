@@ -1,5 +1,6 @@
 // Prints the records that it is given; `scopes --help` says how.
 #![tactic(auto)]
+
 use anyhow::anyhow;
 use scopes_cli::report;
 use std::env;

@@ -1,5 +1,6 @@
 // The work of the program `scopes`, apart from its `main`: reads records and prints what they hold.
 #![tactic(auto)]
+
 mod columns;
 mod inspection;
 mod options;

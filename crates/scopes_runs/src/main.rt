@@ -1,6 +1,7 @@
 // A test: the program's work for other programs, on the sample page, on a damaged copy of it, on a
 // file that is not there, and for bad usage.
 #![tactic(auto)]
+
 use scopes_cli::report;
 use std::{fs, io};
 

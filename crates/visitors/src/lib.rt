@@ -1,6 +1,7 @@
 // What each row of a function mentions: the shapes of instructions and terminals, and their part
 // lists. An inner crate.
 #![tactic(auto)]
+
 mod arity;
 mod parts;
 mod shapes;
