@@ -1,5 +1,5 @@
 -- Every call, and so every list of calls, leaves each identifier with a scope that covers what its scope covered.
-use Rattle.std.proofs.Common.{◌≡◌, ℕ, zero, suc, ◌<◌, ◌≤◌, List, [], ◌∷◌, length, Some, None, Ok, Err, Result, sym, refl, ap, ◌∙◌, arith}
+use Rattle.std.proofs.Common.{◌≡◌, ℕ, zero, suc, ◌≤◌, List, [], ◌∷◌, length, Ok, Err, sym, refl, ◌∙◌, arith}
 use Rattle.std.specs.List.{AllZip}
 use Rattle.react_compiler_hir.specs.declared.rows.IdentifierRow.{IdentifierRow}
 use Rattle.react_compiler_hir.specs.Function.{HirFunction}
@@ -15,7 +15,7 @@ use Rattle.align_laws.proofs.Keeping.{align_only_widens}
 use Rattle.merge_rules.specs.Merged.{merge_replayed}
 use Rattle.merge_rules.proofs.Widening.{merge_widens}
 use Rattle.calls.specs.Calls.{Call, align, merge, align_answer, merge_answer, aligned_rows, merged_rows, after, run}
-use Rattle.calls.specs.Kept.{Covered, AllCovered}
+use Rattle.calls.specs.Kept.{AllCovered}
 
 covered_self : (rows : Rows) → AllCovered rows rows
 covered_self rows i p has in_table =

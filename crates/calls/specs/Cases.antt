@@ -1,5 +1,5 @@
 -- All ten small cases in one check: three aligns on one branch, seven merges on one straight block.
-use Rattle.std.specs.Prelude.{◌≡◌, List, map}
+use Rattle.std.specs.Prelude.{◌≡◌, map}
 use Rattle.align_rules.specs.Cases as aligns
 use Rattle.merge_rules.specs.Cases as merges
 

@@ -1,8 +1,8 @@
 -- A loop that tests each element with what the test before answered.
-use Rattle.std.proofs.Common.{◌≡◌, ℕ, ◌+◌, ◌<◌, ◌≤◌, List, [], ◌∷◌, length, take, drop, Some, None, Ok, Err, Result, sym, refl, ap, ◌∙◌, arith, length-take}
+use Rattle.std.proofs.Common.{◌≡◌, ℕ, ◌+◌, ◌≤◌, List, length, drop, Some, None, Ok, Err, Result, sym}
 use Rattle.std.specs.List.{slice_get}
 use Rattle.std.proofs.lemmas.List.{drop_all}
-use Rattle.visitors.proofs.Positions.{drop_nth, drop_none, nth_part}
+use Rattle.visitors.proofs.Positions.{drop_nth, drop_none}
 use Rattle.function_tests.specs.Steps.{walked}
 
 module _ {X M E : Type 0} (test : ℕ → M → X → Result M E) (xs : List X) (i : ℕ) (m : M) (all : Result M E) (rest : walked test i m (drop i xs) ≡ all) where

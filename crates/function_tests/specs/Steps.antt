@@ -1,9 +1,8 @@
 -- Tests in a row: the first fault is the answer.
-use Rattle.std.specs.Prelude.{ℕ, ◌+◌, Bool, cond, List, [], ◌∷◌, Some, None, Ok, Err, Option, Result}
+use Rattle.std.specs.Prelude.{ℕ, ◌+◌, Bool, cond, List, [], ◌∷◌, Some, None, Ok, Err, Result}
 use Rattle.hir_faults.specs.declared.fault.Envelope.{Envelope}
 use Rattle.hir_faults.specs.declared.fault.Fault.{Fault}
 use Rattle.hir_faults.specs.declared.fault.FunctionFault.{FunctionFault}
-use Rattle.hir_faults.specs.declared.fault.Place.{Place}
 use Rattle.hir_faults.specs.declared.fault.PassFault.TheVariants.{TooLittleMemory}
 use Rattle.hir_faults.specs.Faults.{of_function, function_faulted, of_pass, pass_faulted}
 

@@ -1,5 +1,5 @@
 -- All the tests before a pass, in their order.
-use Rattle.std.specs.Prelude.{ℕ, ◌+◌, ◌*◌, Bool, true, not, ◌&&◌, List, length, Ok, Err, Result, ◌==◌, nat_le}
+use Rattle.std.specs.Prelude.{ℕ, ◌+◌, ◌*◌, Bool, not, ◌&&◌, List, length, Ok, Result, ◌==◌, nat_le}
 use Rattle.hir_faults.specs.declared.fault.Envelope.{Envelope}
 use Rattle.hir_faults.specs.declared.fault.Fault.{Fault}
 use Rattle.hir_faults.specs.declared.fault.FunctionFault.TheVariants.{OverLimit, NoBlock, NotInTable}

@@ -1,6 +1,6 @@
 -- The two walks over the blocks. The first tests rows and numbers, and answers how many numbers it
 -- walked; the second tests the ranges of the scopes that are named.
-use Rattle.std.specs.Prelude.{ℕ, ◌+◌, List, Ok, Err, Result, ◌==◌}
+use Rattle.std.specs.Prelude.{ℕ, ◌+◌, List, Ok, Result, ◌==◌}
 use Rattle.hir_faults.specs.declared.fault.Envelope.{Envelope}
 use Rattle.hir_faults.specs.declared.fault.Fault.{Fault}
 use Rattle.hir_faults.specs.declared.fault.FunctionFault.TheVariants.{OutOfRange, NotInTable, OutOfOrder, BadScopeRange}

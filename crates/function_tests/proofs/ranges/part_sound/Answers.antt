@@ -1,4 +1,4 @@
-use Rattle.std.proofs.Common.{◌+◌, sym, ◌∙◌, rules}
+use Rattle.std.proofs.Common.{◌+◌, rules}
 use Rattle.function_tests.specs.Ranges.{names_sound}
 use Rattle.function_tests.proofs.Alls.{part_more, part_failed, part_ended, part_passed}
 use Rattle.function_tests.proofs.ranges.part_sound.Goals as goal

@@ -1,4 +1,4 @@
-use Rattle.std.proofs.Common.{sym, rules}
+use Rattle.std.proofs.Common.{sym}
 use Rattle.std.proofs.lemmas.Option.{slice_get-get_or}
 use Rattle.function_tests.specs.Ranges.{scope_known}
 use Rattle.function_tests.proofs.Alls.{all_more, all_failed, all_passed}

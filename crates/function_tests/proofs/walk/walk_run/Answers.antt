@@ -1,4 +1,4 @@
-use Rattle.std.proofs.Common.{◌∙◌, arith, length-take, rules}
+use Rattle.std.proofs.Common.{◌∙◌, arith, length-take}
 use Rattle.std.proofs.lemmas.Result.{err_from_is_err_and}
 use Rattle.react_compiler_hir.specs.Function.{hir_function}
 use Rattle.visitors.specs.Mentions.{instructions_of}

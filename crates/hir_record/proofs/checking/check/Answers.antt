@@ -1,4 +1,4 @@
-use Rattle.std.proofs.Common.{◌≡◌, length, sym, ap, ◌∙◌, rules}
+use Rattle.std.proofs.Common.{length, sym, ap, ◌∙◌, rules}
 use Rattle.hir_record.specs.Check.{counted}
 use Rattle.hir_record.proofs.Parts.{counts_of_rest, checked_counts}
 use Rattle.hir_record.proofs.checking.check.Goals as goal
