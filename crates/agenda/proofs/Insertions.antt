@@ -1,6 +1,6 @@
 -- An insertion seen from the end of the list; it keeps the order, and brings in one entry.
 use Rattle.std.proofs.Common.{◌≡◌, Bool, true, false, ◌&&◌, List, [], ◌∷◌, ◌++◌, refl, ap, ◌∙◌, inl, inr, arith}
-use Rattle.std.specs.List.{AllByRecursion as All}
+use Rattle.std.specs.List.{AllByRecursion}
 use Rattle.std.specs.List.Sorted.{IsPermutation}
 use Rattle.std.proofs.ByRecursion.{All-weaker}
 use Rattle.std.proofs.lemmas.List.Sorted.{IsPermutation-refl, IsPermutation-trans, IsPermutation-cons, IsPermutation-swap}
@@ -43,11 +43,11 @@ module _ {X : Type 0} (lt : X → X → Bool) (e : X) where
       and_none true = refl
       and_none false = refl
 
-  pub all_before : (xs : List X) → before_all lt e xs ≡ true → All (λ y. lt e y ≡ true) xs
+  pub all_before : (xs : List X) → before_all lt e xs ≡ true → AllByRecursion (λ y. lt e y ≡ true) xs
   all_before [] h = tt
   all_before (y ∷ ys) h = let p = and_parts (lt e y) (before_all lt e ys) h in (p.0, all_before ys p.1)
 
-  all_insert : (P : X → Type 0) (xs : List X) → P e → All P xs → All P (insert lt e xs)
+  all_insert : (P : X → Type 0) (xs : List X) → P e → AllByRecursion P xs → AllByRecursion P (insert lt e xs)
   all_insert P [] p h = (p, h)
   all_insert P (y ∷ ys) p h = elim (cases_Bool (before_all lt e (y ∷ ys))) [ inl t ↦ rw t (p, h) | inr f ↦ rw f (h.0, all_insert P ys p h.1) ]
 
@@ -60,14 +60,14 @@ module _ {X : Type 0} (lt : X → X → Bool) (e : X) where
 
   module _ (law : Lawful lt) where
     -- what goes before the first goes before all
-    before_first : (y : X) (ys : List X) → All (λ z. lt z y ≡ false) ys → lt e y ≡ true → before_all lt e ys ≡ true
+    before_first : (y : X) (ys : List X) → AllByRecursion (λ z. lt z y ≡ false) ys → lt e y ≡ true → before_all lt e ys ≡ true
     before_first y [] h t = refl
     before_first y (z ∷ zs) h t = elim (cases_Bool (lt e z)) [
       | inl b ↦ and_from (lt e z) (before_all lt e zs) b (before_first y zs h.1 t)
       | inr f ↦ absurd (both_ways (lt e y) (law.passes_on y z e h.0 f) t)
     ]
 
-    not_first : (y : X) (ys : List X) → All (λ z. lt z y ≡ false) ys → before_all lt e (y ∷ ys) ≡ false → lt e y ≡ false
+    not_first : (y : X) (ys : List X) → AllByRecursion (λ z. lt z y ≡ false) ys → before_all lt e (y ∷ ys) ≡ false → lt e y ≡ false
     not_first y ys h f = elim (cases_Bool (lt e y)) [
       | inl t ↦ absurd (both_ways (before_all lt e (y ∷ ys)) f (and_from (lt e y) (before_all lt e ys) t (before_first y ys h t)))
       | inr n ↦ n

@@ -1,6 +1,6 @@
 -- Insertions one after the other sort, and keep level entries as they came.
 use Rattle.std.proofs.Common.{◌≡◌, Bool, true, false, cond, List, [], ◌∷◌, ◌++◌, filter, sym, refl, ap, ◌∙◌, inl, inr, append_assoc}
-use Rattle.std.specs.List.{AllByRecursion as All}
+use Rattle.std.specs.List.{AllByRecursion}
 use Rattle.std.specs.List.Sorted.{IsPermutation}
 use Rattle.std.proofs.lemmas.List.{append-nil}
 use Rattle.std.proofs.lemmas.List.Sorted.{IsPermutation-refl, IsPermutation-trans}
@@ -12,7 +12,7 @@ use Rattle.agenda.proofs.Insertions.{shuffled_past, all_before, insert_ordered, 
 
 module _ {X : Type 0} (lt : X → X → Bool) (law : Lawful lt) where
   -- what goes before all of ys is level with none that one of ys is level with
-  none_level : (x e : X) (ys : List X) → level lt x e ≡ true → All (λ y. lt e y ≡ true) ys → filter (level lt x) ys ≡ []
+  none_level : (x e : X) (ys : List X) → level lt x e ≡ true → AllByRecursion (λ y. lt e y ≡ true) ys → filter (level lt x) ys ≡ []
   none_level x e [] same h = refl
   none_level x e (y ∷ ys) same h = elim (cases_Bool (level lt x y)) [
     | inl t ↦ (

@@ -1,6 +1,6 @@
 -- Lists of entries in an order.
 use Rattle.std.specs.Prelude.{◌≡◌, Bool, true, false, cond, ◌&&◌, List, [], ◌∷◌}
-use Rattle.std.specs.List.{AllByRecursion as All}
+use Rattle.std.specs.List.{AllByRecursion}
 
 abbrev pub before_all : {X : Type 0} → (X → X → Bool) → X → List X → Bool
 before_all lt x [] = true
@@ -19,4 +19,4 @@ insert_all lt (x ∷ xs) ys = insert_all lt xs (insert lt x ys)
 -- none goes before one that stands earlier
 abbrev pub Ordered : {X : Type 0} → (X → X → Bool) → List X → Type 0
 Ordered lt [] = Unit {0}
-Ordered lt (x ∷ xs) = All (λ y. lt y x ≡ false) xs × Ordered lt xs
+Ordered lt (x ∷ xs) = AllByRecursion (λ y. lt y x ≡ false) xs × Ordered lt xs

@@ -3,7 +3,7 @@
 #![tactic(auto)]
 
 ghost use Rattle.std.specs.Prelude.{◌≡◌, ℕ, ◌<◌, ◌≤◌, Bool, true, false, not, List, [], ◌∷◌, length, IfSome, if◌then◌else◌, MatchOption, ◌≢◌, nat_lt};
-ghost use Rattle.std.specs.List.{AllByRecursion as All};
+ghost use Rattle.std.specs.List.{AllByRecursion};
 ghost use Rattle.std.specs.List.Sorted.{IsPermutation};
 ghost use Rattle.agenda.specs.Order.{insert, Ordered};
 ghost use Rattle.agenda.specs.Entries.{entries};
@@ -81,7 +81,7 @@ impl<E: Entry> Agenda<'_, E> {
     // Takes out the first entry. It costs the same however many there are.
     pub fn take_first(&mut self) -> Option<E>
         ensures is { MatchOption result ((entries self.old ≡ []) × (entries self.new ≡ [])) (λ e. entries self.old ≡ e ∷ entries self.new) }
-        ensures first { IfSome result (λ e. (Ordered E.before (entries self.old) → All (λ y. E.before y e ≡ false) (entries self.new) × Ordered E.before (entries self.new))) }
+        ensures first { IfSome result (λ e. (Ordered E.before (entries self.old) → AllByRecursion (λ y. E.before y e ≡ false) (entries self.new) × Ordered E.before (entries self.new))) }
         ensures rows { self.new.rows.now ≡ self.old.rows.now }
     {
         if self.len() == 0 {

@@ -1,6 +1,6 @@
 -- Brackets and nodes of a function with the numbers 1 to n start at 1 or later, and end at n + 1 or earlier.
 use Rattle.std.proofs.Common.{◌≡◌, ℕ, zero, suc, ◌+◌, ◌≤◌, Bool, true, false, cond, ◌&&◌, eqb, List, [], ◌∷◌, length, get_or, replicate, Some, None, Ok, Option, refl, arith}
-use Rattle.std.specs.List.{slice_get, AllByRecursion as All}
+use Rattle.std.specs.List.{slice_get, AllByRecursion}
 use Rattle.std.proofs.ByRecursion.{All-set}
 use Rattle.hir_faults.specs.declared.fault.PassFault.TheVariants.{SharedFallthrough, NoRangeId}
 use Rattle.react_compiler_hir.specs.declared.rows.BlockRow.{BlockRow}
@@ -23,12 +23,12 @@ if_either : {X : Type 0} (P : X → Type 0) (b : Bool) (o q : Option X) → IfSo
 if_either P true o q h k = h
 if_either P false o q h k = k
 
-if_getD : {X : Type 0} (P : X → Type 0) (os : List (Option X)) (k : ℕ) → All (IfSome P) os → IfSome P (get_or os k None)
+if_getD : {X : Type 0} (P : X → Type 0) (os : List (Option X)) (k : ℕ) → AllByRecursion (IfSome P) os → IfSome P (get_or os k None)
 if_getD P [] k h = tt
 if_getD P (o ∷ os) zero h = h.0
 if_getD P (o ∷ os) (suc k) h = if_getD P os k h.1
 
-all_none : {X : Type 0} (P : X → Type 0) (n : ℕ) → All (IfSome P) (replicate n None)
+all_none : {X : Type 0} (P : X → Type 0) (n : ℕ) → AllByRecursion (IfSome P) (replicate n None)
 all_none P zero = tt
 all_none P (suc n) = (tt, all_none P n)
 
@@ -42,23 +42,23 @@ module _ (n : ℕ) where
     pub end : x.end ≤ n + 1
 
   pub record MarksBound (m : Marks) : Type 0 where
-    pub pending : All BracketBound m.pending
-    pub nodes : All (IfSome NodeBound) m.nodes
+    pub pending : AllByRecursion BracketBound m.pending
+    pub nodes : AllByRecursion (IfSome NodeBound) m.nodes
 
   pub record ReachBound (to : Reach) : Type 0 where
     pub down : IfSome (λ d. 1 ≤ d) to.down
     pub up : IfSome (λ u. u ≤ n + 1) to.up
 
   -- what a terminal asks
-  open_bound : (k : ℕ) (xs : List Bracket) → All BracketBound xs → All BracketBound (open_after k xs)
+  open_bound : (k : ℕ) (xs : List Bracket) → AllByRecursion BracketBound xs → AllByRecursion BracketBound (open_after k xs)
   open_bound k [] h = tt
   open_bound k (x ∷ xs) h = either (eqb x.fallthrough k)
     where
-      either : (b : Bool) → All BracketBound (cond b xs (x ∷ xs))
+      either : (b : Bool) → AllByRecursion BracketBound (cond b xs (x ∷ xs))
       either true = h.1
       either false = h
 
-  pub closing_bound : (k : ℕ) (xs : List Bracket) → All BracketBound xs → IfSome (λ t. 1 ≤ t) (closing_at k xs)
+  pub closing_bound : (k : ℕ) (xs : List Bracket) → AllByRecursion BracketBound xs → IfSome (λ t. 1 ≤ t) (closing_at k xs)
   closing_bound k [] h = tt
   closing_bound k (x ∷ xs) h = if_either (λ t. 1 ≤ t) (eqb x.fallthrough k) (Some x.start) None h.0.start tt
 
@@ -66,17 +66,17 @@ module _ (n : ℕ) where
   or_bound None q h k = k
   or_bound (Some x) q h k = h
 
-  earliest_bound : (k : ℕ) (xs : List Bracket) → All BracketBound xs → IfSome BracketBound (earliest_to k xs)
+  earliest_bound : (k : ℕ) (xs : List Bracket) → AllByRecursion BracketBound xs → IfSome BracketBound (earliest_to k xs)
   earliest_bound k [] h = tt
   earliest_bound k (x ∷ xs) h =
       or_bound (earliest_to k xs) (cond (eqb x.fallthrough k) (Some x) None) (earliest_bound k xs h.1)
       (if_either BracketBound (eqb x.fallthrough k) (Some x) None h.0 tt)
 
-  older_bound : (xs : List Bracket) → All BracketBound xs → All BracketBound (all_but_newest xs)
+  older_bound : (xs : List Bracket) → AllByRecursion BracketBound xs → AllByRecursion BracketBound (all_but_newest xs)
   older_bound [] h = tt
   older_bound (x ∷ xs) h = h.1
 
-  left_bound : (xs : List Bracket) (o : Option ℕ) → All BracketBound xs → IfSome BracketBound (left_to xs o)
+  left_bound : (xs : List Bracket) (o : Option ℕ) → AllByRecursion BracketBound xs → IfSome BracketBound (left_to xs o)
   left_bound xs None h = tt
   left_bound xs (Some k) h = earliest_bound k (all_but_newest xs) (older_bound xs h)
 
@@ -104,7 +104,7 @@ module _ (n : ℕ) where
     bracket_bound : IfSome BracketBound (bracket_of f b)
     bracket_bound = bracket_to_bound (eqb b.terminal_kind branch) (terminal_fallthrough f.words b)
 
-    pub terminal_reach_bound : (k : ℕ) (xs : List Bracket) → All BracketBound xs → ReachBound (terminal_reach f (open_after k xs) b)
+    pub terminal_reach_bound : (k : ℕ) (xs : List Bracket) → AllByRecursion BracketBound xs → ReachBound (terminal_reach f (open_after k xs) b)
     terminal_reach_bound k xs h =
         let left = left_to (open_after k xs) (goto_target f.words b) in
         opening_bound (bracket_of f b) left bracket_bound (left_bound (open_after k xs) (goto_target f.words b) (open_bound k xs h))

@@ -1,6 +1,6 @@
 -- A scope that has ended where a block begins is left alone for good.
 use Rattle.std.proofs.Common.{◌≡◌, ℕ, ◌≤◌, Bool, true, false, cond, not, eqb, ltb, leb, List, [], ◌∷◌, Some, None, Option, refl, ap, ◌∙◌, arith}
-use Rattle.std.specs.List.{AllByRecursion as All}
+use Rattle.std.specs.List.{AllByRecursion}
 use Rattle.std.proofs.lemmas.Bool.{le-ltb, and_left, and_right, or_from}
 use Rattle.react_compiler_hir.specs.declared.rows.MutableRange.{MutableRange}
 use Rattle.react_compiler_hir.specs.declared.rows.BlockRow.{BlockRow}
@@ -51,7 +51,7 @@ module _ (ds : List IdentifierRow) (own : Option Node) (p end : ℕ) where
   gone_places number r [] l h = h
   gone_places number r (i ∷ is) l h = gone_places number (scope_run own number p (identifier_scope ds i) r) is l (gone_scope own number p end (identifier_scope ds i) r l h)
 
-  gone_instructions : (a : ℕ) (ws : List ℕ) (r : Tracked) (xs : List InstructionRow) → end ≤ a → All (λ x. a ≤ x.number) xs → Gone end r → Gone end (instructions_run ds own p ws r xs)
+  gone_instructions : (a : ℕ) (ws : List ℕ) (r : Tracked) (xs : List InstructionRow) → end ≤ a → AllByRecursion (λ x. a ≤ x.number) xs → Gone end r → Gone end (instructions_run ds own p ws r xs)
   gone_instructions a ws r [] l m h = h
   gone_instructions a ws r (x ∷ xs) l m h =
       gone_instructions a ws (places_run ds own p x.number r (instruction_mentions ws x)) xs l m.1
@@ -64,7 +64,7 @@ gone_stretched terminal end to r h = record {
 }
 
 -- a block whose numbers are a and more
-pub gone_block : (f : HirFunction) (ds : List IdentifierRow) (p k a : ℕ) (b : BlockRow) (m : Marks) (r : Tracked) → block_first_number f.instructions b ≡ a → All (λ x. a ≤ x.number) (instructions_of f.instructions b) → a ≤ b.terminal_number → r.range.end ≤ a → Gone r.range.end (block_run f ds p k b m r)
+pub gone_block : (f : HirFunction) (ds : List IdentifierRow) (p k a : ℕ) (b : BlockRow) (m : Marks) (r : Tracked) → block_first_number f.instructions b ≡ a → AllByRecursion (λ x. a ≤ x.number) (instructions_of f.instructions b) → a ≤ b.terminal_number → r.range.end ≤ a → Gone r.range.end (block_run f ds p k b m r)
 gone_block f ds p k a b m r first least last h =
     let own = node_at m.nodes k in
     let e = r.range.end in

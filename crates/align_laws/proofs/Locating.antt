@@ -1,6 +1,6 @@
 -- In which block a scope is met, and by what.
 use Rattle.std.proofs.Common.{◌≡◌, ℕ, zero, suc, ◌+◌, true, ◌⊎◌, List, [], ◌∷◌, ◌++◌, map, Some, refl, subst, inl, inr, arith}
-use Rattle.std.specs.List.{slice_get, ContainsAt as Has, AllByRecursion as All}
+use Rattle.std.specs.List.{slice_get, ContainsAt, AllByRecursion}
 use Rattle.std.proofs.ByRecursion.{All-append, All-map, All-weaker, all-has, all_has_itself}
 use Rattle.react_compiler_hir.specs.declared.rows.BlockRow.{BlockRow}
 use Rattle.react_compiler_hir.specs.declared.rows.InstructionRow.{InstructionRow}
@@ -12,14 +12,14 @@ use Rattle.align_rules.specs.Meets.{Met}
 -- an instruction of the block has this number and mentions the identifier
 pub record ByInstruction (f : HirFunction) (b : BlockRow) (number identifier : ℕ) : Type 0 where
   pub instruction : InstructionRow
-  pub among : Has (instructions_of f.instructions b) instruction
+  pub among : ContainsAt (instructions_of f.instructions b) instruction
   pub numbered : instruction.number ≡ number
-  pub mentions : Has (instruction_mentions f.words instruction) identifier
+  pub mentions : ContainsAt (instruction_mentions f.words instruction) identifier
 
 -- the terminal of the block does
 pub record ByTerminal (f : HirFunction) (b : BlockRow) (number identifier : ℕ) : Type 0 where
   pub numbered : b.terminal_number ≡ number
-  pub mentions : Has (terminal_operands f.words b) identifier
+  pub mentions : ContainsAt (terminal_operands f.words b) identifier
 
 record Located (f : HirFunction) (x : Mention) : Type 0 where
   position : ℕ
@@ -31,13 +31,13 @@ abbrev mention : ℕ → ℕ → ℕ → ℕ → Mention
 mention block step number i = record { block = block; step = step; number = number; identifier = i }
 
 module _ (f : HirFunction) where
-  step_located : (block step number : ℕ) (is : List ℕ) → ((i : ℕ) → Has is i → Located f (mention block step number i)) → All (Located f) (map (mention block step number) is)
+  step_located : (block step number : ℕ) (is : List ℕ) → ((i : ℕ) → ContainsAt is i → Located f (mention block step number i)) → AllByRecursion (Located f) (map (mention block step number) is)
   step_located block step number is h =
       All-map (Located f) (mention block step number) is
-      (All-weaker (Has is) (λ i. Located f (mention block step number i)) h is (all_has_itself is))
+      (All-weaker (ContainsAt is) (λ i. Located f (mention block step number i)) h is (all_has_itself is))
 
   module _ (k : ℕ) (b : BlockRow) (stands : slice_get f.blocks k ≡ Some b) where
-    run_located : (step : ℕ) (rs : List InstructionRow) → All (Has (instructions_of f.instructions b)) rs → All (Located f) (run_mentions f.words k step rs)
+    run_located : (step : ℕ) (rs : List InstructionRow) → AllByRecursion (ContainsAt (instructions_of f.instructions b)) rs → AllByRecursion (Located f) (run_mentions f.words k step rs)
     run_located step [] h = tt
     run_located step (r ∷ rs) h =
         All-append (Located f) (map (mention k step r.number) (instruction_mentions f.words r)) (run_mentions f.words k (step + 1) rs)
@@ -45,7 +45,7 @@ module _ (f : HirFunction) where
         record { position = k; block = b; stands = stands; by = inl (record { instruction = r; among = h.0; numbered = refl; mentions = m }) }))
         (run_located (step + 1) rs h.1)
 
-    block_located : All (Located f) (block_mentions f k b)
+    block_located : AllByRecursion (Located f) (block_mentions f k b)
     block_located =
         let rs = instructions_of f.instructions b in
         let is = terminal_operands f.words b in
@@ -54,41 +54,41 @@ module _ (f : HirFunction) where
         (step_located k b.instruction_count b.terminal_number is (λ i m.
         record { position = k; block = b; stands = stands; by = inr (record { numbered = refl; mentions = m }) }))
 
-  from_located : (k : ℕ) (bs : List BlockRow) → ((j p : ℕ) (b : BlockRow) → k + j ≡ p → slice_get bs j ≡ Some b → slice_get f.blocks p ≡ Some b) → All (Located f) (mentions_from f k bs)
+  from_located : (k : ℕ) (bs : List BlockRow) → ((j p : ℕ) (b : BlockRow) → k + j ≡ p → slice_get bs j ≡ Some b → slice_get f.blocks p ≡ Some b) → AllByRecursion (Located f) (mentions_from f k bs)
   from_located k [] h = tt
   from_located k (b ∷ bs) h =
       All-append (Located f) (block_mentions f k b) (mentions_from f (k + 1) bs)
       (block_located k b (h 0 k b (omega arith) refl))
       (from_located (k + 1) bs (λ j p c e g. h (suc j) p c (omega arith) g))
 
-  located : All (Located f) (mentions f)
+  located : AllByRecursion (Located f) (mentions f)
   located = from_located 0 f.blocks (λ j p b e g.
       let same : j ≡ p = omega arith in
       subst (λ q. slice_get f.blocks q ≡ Some b) same g)
 
 -- what holds of the number and the identifier of every mention holds of those of a block
-all_left : {X : Type 0} (P : X → Type 0) (xs ys : List X) → All P (xs ++ ys) → All P xs
+all_left : {X : Type 0} (P : X → Type 0) (xs ys : List X) → AllByRecursion P (xs ++ ys) → AllByRecursion P xs
 all_left P [] ys h = tt
 all_left P (x ∷ xs) ys h = (h.0, all_left P xs ys h.1)
 
-all_right : {X : Type 0} (P : X → Type 0) (xs ys : List X) → All P (xs ++ ys) → All P ys
+all_right : {X : Type 0} (P : X → Type 0) (xs ys : List X) → AllByRecursion P (xs ++ ys) → AllByRecursion P ys
 all_right P [] ys h = h
 all_right P (x ∷ xs) ys h = all_right P xs ys h.1
 
-all_unmapped : {X Y : Type 0} (P : Y → Type 0) (g : X → Y) (xs : List X) → All P (map g xs) → All (λ x. P (g x)) xs
+all_unmapped : {X Y : Type 0} (P : Y → Type 0) (g : X → Y) (xs : List X) → AllByRecursion P (map g xs) → AllByRecursion (λ x. P (g x)) xs
 all_unmapped P g [] h = tt
 all_unmapped P g (x ∷ xs) h = (h.0, all_unmapped P g xs h.1)
 
 module _ (P : ℕ → ℕ → Type 0) (f : HirFunction) where
   abbrev pub Missed : BlockRow → Type 0
   Missed b =
-      All (λ r. All (P r.number) (instruction_mentions f.words r)) (instructions_of f.instructions b) ×
-      All (P b.terminal_number) (terminal_operands f.words b)
+      AllByRecursion (λ r. AllByRecursion (P r.number) (instruction_mentions f.words r)) (instructions_of f.instructions b) ×
+      AllByRecursion (P b.terminal_number) (terminal_operands f.words b)
 
   abbrev of_mention : Mention → Type 0
   of_mention x = P x.number x.identifier
 
-  run_missed : (k step : ℕ) (rs : List InstructionRow) → All of_mention (run_mentions f.words k step rs) → All (λ r. All (P r.number) (instruction_mentions f.words r)) rs
+  run_missed : (k step : ℕ) (rs : List InstructionRow) → AllByRecursion of_mention (run_mentions f.words k step rs) → AllByRecursion (λ r. AllByRecursion (P r.number) (instruction_mentions f.words r)) rs
   run_missed k step [] h = tt
   run_missed k step (r ∷ rs) h =
       let here = map (mention k step r.number) (instruction_mentions f.words r) in
@@ -97,7 +97,7 @@ module _ (P : ℕ → ℕ → Type 0) (f : HirFunction) where
         run_missed k (step + 1) rs (all_right of_mention here rest h),
       )
 
-  block_missed : (k : ℕ) (b : BlockRow) → All of_mention (block_mentions f k b) → Missed b
+  block_missed : (k : ℕ) (b : BlockRow) → AllByRecursion of_mention (block_mentions f k b) → Missed b
   block_missed k b h =
       let rs = instructions_of f.instructions b in
       let is = terminal_operands f.words b in
@@ -106,7 +106,7 @@ module _ (P : ℕ → ℕ → Type 0) (f : HirFunction) where
         all_unmapped of_mention (mention k b.instruction_count b.terminal_number) is (all_right of_mention (run_mentions f.words k 0 rs) last h),
       )
 
-  from_missed : (k : ℕ) (bs : List BlockRow) (j : ℕ) (b : BlockRow) → slice_get bs j ≡ Some b → All of_mention (mentions_from f k bs) → Missed b
+  from_missed : (k : ℕ) (bs : List BlockRow) (j : ℕ) (b : BlockRow) → slice_get bs j ≡ Some b → AllByRecursion of_mention (mentions_from f k bs) → Missed b
   from_missed k [] j b e h =
       let no : ◌≡◌ {A = ℕ} 0 1 = cc in
       absurd (omega arith)
@@ -115,7 +115,7 @@ module _ (P : ℕ → ℕ → Type 0) (f : HirFunction) where
       subst Missed same (block_missed k c (all_left of_mention (block_mentions f k c) (mentions_from f (k + 1) bs) h))
   from_missed k (c ∷ bs) (suc j) b e h = from_missed (k + 1) bs j b e (all_right of_mention (block_mentions f k c) (mentions_from f (k + 1) bs) h)
 
-  pub missed : (k : ℕ) (b : BlockRow) → slice_get f.blocks k ≡ Some b → All of_mention (mentions f) → Missed b
+  pub missed : (k : ℕ) (b : BlockRow) → slice_get f.blocks k ≡ Some b → AllByRecursion of_mention (mentions f) → Missed b
   missed k b e h = from_missed 0 f.blocks k b e h
 
 -- a scope is met at a number, in this block

@@ -1,6 +1,6 @@
 -- A scope that a block meets is active after it, and so is one that was active and has not ended.
 use Rattle.std.proofs.Common.{◌≡◌, ℕ, zero, suc, ◌<◌, ◌≤◌, Bool, true, false, cond, ◌&&◌, eqb, ltb, leb, ◌⊎◌, List, [], ◌∷◌, length, get_or, Some, None, Option, sym, refl, ap, ◌∙◌, subst, inl, inr, arith}
-use Rattle.std.specs.List.{ContainsAt as Has}
+use Rattle.std.specs.List.{ContainsAt}
 use Rattle.std.proofs.lemmas.Bool.{lt-ltb, le-leb, le-ltb, eq-eqb, and_from, and_right, or_left, or_right, cond-true, cases_lt}
 use Rattle.react_compiler_hir.specs.declared.rows.BlockRow.{BlockRow}
 use Rattle.react_compiler_hir.specs.declared.rows.InstructionRow.{InstructionRow}
@@ -56,11 +56,11 @@ module _ (ds : List IdentifierRow) (own : Option Node) (p : ℕ) where
       let next = scope_run own number p (identifier_scope ds j) r in
       met_places number next is i k (omega arith) e s (inside_wider r next number (scope_wider own number p (identifier_scope ds j) r) h)
 
-  met_instructions : (ws : List ℕ) (r : Tracked) (xs : List InstructionRow) (x : InstructionRow) (i k : ℕ) → k < length xs → ((d : InstructionRow) → get_or xs k d ≡ x) → Has (instruction_mentions ws x) i → identifier_scope ds i ≡ Some p → Inside r x.number → (instructions_run ds own p ws r xs).active ≡ true
+  met_instructions : (ws : List ℕ) (r : Tracked) (xs : List InstructionRow) (x : InstructionRow) (i k : ℕ) → k < length xs → ((d : InstructionRow) → get_or xs k d ≡ x) → ContainsAt (instruction_mentions ws x) i → identifier_scope ds i ≡ Some p → Inside r x.number → (instructions_run ds own p ws r xs).active ≡ true
   met_instructions ws r [] x i k l e m s h = absurd (omega arith)
   met_instructions ws r (y ∷ xs) x i zero l e m s h =
       let same : x ≡ y = sym (e x) in
-      let mentioned : Has (instruction_mentions ws y) i = subst (λ z. Has (instruction_mentions ws z) i) same m in
+      let mentioned : ContainsAt (instruction_mentions ws y) i = subst (λ z. ContainsAt (instruction_mentions ws z) i) same m in
       let within : Inside r y.number = subst (λ z. Inside r z.number) same h in
       active_instructions ws (places_run ds own p y.number r (instruction_mentions ws y)) xs
       (met_places y.number r (instruction_mentions ws y) i mentioned.0 mentioned.1 mentioned.2 s within)

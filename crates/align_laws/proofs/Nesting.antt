@@ -1,6 +1,6 @@
 -- In a bracketed function the open brackets are nested, so that each is the newest where it closes.
 use Rattle.std.proofs.Common.{◌≡◌, ℕ, ◌+◌, ◌<◌, ◌≤◌, Bool, true, false, cond, eqb, ◌⊎◌, List, [], ◌∷◌, Some, None, Option, sym, refl, ap, ◌∙◌, subst, inl, inr, arith}
-use Rattle.std.specs.List.{slice_get, AllByRecursion as All}
+use Rattle.std.specs.List.{slice_get, AllByRecursion}
 use Rattle.std.proofs.ByRecursion.{All-weaker}
 use Rattle.std.proofs.lemmas.Bool.{cases_eq, cond-true, cond-false, eq-eqb, ne_eqb}
 use Rattle.react_compiler_hir.specs.declared.rows.BlockRow.{BlockRow}
@@ -19,23 +19,23 @@ abbrev pub Under : Bracket → ℕ → List Bracket → Type 0
 Under x k [] = ⊥
 Under x k (y ∷ ys) = (y ≡ x) ⊎ ((k ≤ y.fallthrough) × (y.fallthrough < x.fallthrough) × Under x (y.fallthrough + 1) ys)
 
-all_either : {X : Type 0} (P : X → Type 0) (b : Bool) (xs ys : List X) → All P xs → All P ys → All P (cond b xs ys)
+all_either : {X : Type 0} (P : X → Type 0) (b : Bool) (xs ys : List X) → AllByRecursion P xs → AllByRecursion P ys → AllByRecursion P (cond b xs ys)
 all_either P true xs ys h k = h
 all_either P false xs ys h k = k
 
-all_open : (P : Bracket → Type 0) (k : ℕ) (ys : List Bracket) → All P ys → All P (open_after k ys)
+all_open : (P : Bracket → Type 0) (k : ℕ) (ys : List Bracket) → AllByRecursion P ys → AllByRecursion P (open_after k ys)
 all_open P k [] h = tt
 all_open P k (y ∷ ys) h = all_either P (eqb y.fallthrough k) ys (y ∷ ys) h.1 h
 
 module _ (f : HirFunction) (k : ℕ) (b : BlockRow) (stands : slice_get f.blocks k ≡ Some b) where
-  older : (ys : List Bracket) → All (OpenedBefore f k) ys → All (OpenedBefore f (k + 1)) ys
+  older : (ys : List Bracket) → AllByRecursion (OpenedBefore f k) ys → AllByRecursion (OpenedBefore f (k + 1)) ys
   older ys h = All-weaker (OpenedBefore f k) (OpenedBefore f (k + 1)) (λ y g. (g.0, omega (arith, g.1), g.2)) ys h
 
-  all_opened : (o : Option Bracket) (ys : List Bracket) → bracket_of f b ≡ o → All (OpenedBefore f k) ys → All (OpenedBefore f (k + 1)) (opened o ys)
+  all_opened : (o : Option Bracket) (ys : List Bracket) → bracket_of f b ≡ o → AllByRecursion (OpenedBefore f k) ys → AllByRecursion (OpenedBefore f (k + 1)) (opened o ys)
   all_opened None ys e h = older ys h
   all_opened (Some x) ys e h = ((k, omega arith, ap (row_bracket f) stands ∙ e), older ys h)
 
-  pub opened_more : (ys : List Bracket) → All (OpenedBefore f k) ys → All (OpenedBefore f (k + 1)) (opened (bracket_of f b) (open_after k ys))
+  pub opened_more : (ys : List Bracket) → AllByRecursion (OpenedBefore f k) ys → AllByRecursion (OpenedBefore f (k + 1)) (opened (bracket_of f b) (open_after k ys))
   opened_more ys h = all_opened (bracket_of f b) (open_after k ys) refl (all_open (OpenedBefore f k) k ys h)
 
 under_open : (x : Bracket) (k : ℕ) (ys : List Bracket) → k < x.fallthrough → Under x k ys → Under x (k + 1) (open_after k ys)
@@ -54,7 +54,7 @@ under_open x k (y ∷ ys) l (inr h) = elim (cases_eq y.fallthrough k) [
 
 module _ (f : HirFunction) (bracketed : Bracketed f) (j : ℕ) (x : Bracket) (opens : bracket_at f j ≡ Some x) where
   -- a bracket z that opens at k closes before those that are open
-  under_push : (k : ℕ) (z : Bracket) (ys : List Bracket) → bracket_at f k ≡ Some z → j < k → k < x.fallthrough → All (OpenedBefore f k) ys → Under x (k + 1) ys → Under x (k + 1) (z ∷ ys)
+  under_push : (k : ℕ) (z : Bracket) (ys : List Bracket) → bracket_at f k ≡ Some z → j < k → k < x.fallthrough → AllByRecursion (OpenedBefore f k) ys → Under x (k + 1) ys → Under x (k + 1) (z ∷ ys)
   under_push k z [] e l m all h = absurd h
   under_push k z (y ∷ ys) e l m all (inl same) =
       inr (omega (arith, bracketed.ahead k z e), bracketed.nested j k x z opens e l m, inl same)
@@ -63,11 +63,11 @@ module _ (f : HirFunction) (bracketed : Bracketed f) (j : ℕ) (x : Bracket) (op
       let inner = bracketed.nested first.0 k y z first.2 e first.1 (omega (arith, h.0)) in
       inr (omega (arith, bracketed.ahead k z e), bracketed.nested j k x z opens e l m, inr (omega arith, h.1, h.2))
 
-  under_opened : (k : ℕ) (b : BlockRow) → slice_get f.blocks k ≡ Some b → j < k → k < x.fallthrough → (o : Option Bracket) → bracket_of f b ≡ o → (ys : List Bracket) → All (OpenedBefore f k) ys → Under x (k + 1) ys → Under x (k + 1) (opened o ys)
+  under_opened : (k : ℕ) (b : BlockRow) → slice_get f.blocks k ≡ Some b → j < k → k < x.fallthrough → (o : Option Bracket) → bracket_of f b ≡ o → (ys : List Bracket) → AllByRecursion (OpenedBefore f k) ys → Under x (k + 1) ys → Under x (k + 1) (opened o ys)
   under_opened k b stands l m None e ys all h = h
   under_opened k b stands l m (Some z) e ys all h = under_push k z ys (ap (row_bracket f) stands ∙ e) l m all h
 
-  pub under_more : (k : ℕ) (b : BlockRow) → slice_get f.blocks k ≡ Some b → j < k → k < x.fallthrough → (ys : List Bracket) → All (OpenedBefore f k) ys → Under x k ys → Under x (k + 1) (opened (bracket_of f b) (open_after k ys))
+  pub under_more : (k : ℕ) (b : BlockRow) → slice_get f.blocks k ≡ Some b → j < k → k < x.fallthrough → (ys : List Bracket) → AllByRecursion (OpenedBefore f k) ys → Under x k ys → Under x (k + 1) (opened (bracket_of f b) (open_after k ys))
   under_more k b stands l m ys all h =
       under_opened k b stands l m (bracket_of f b) refl (open_after k ys) (all_open (OpenedBefore f k) k ys all) (under_open x k ys m h)
 

@@ -1,6 +1,6 @@
 -- The numbers of a block in a function whose numbers go on one by one.
 use Rattle.std.proofs.Common.{◌≡◌, ℕ, zero, suc, ◌+◌, ◌<◌, ◌≤◌, List, [], ◌∷◌, ◌++◌, map, length, Some, refl, ap, subst, suc-add, arith}
-use Rattle.std.specs.List.{range_with_len, slice_get, AllByRecursion as All}
+use Rattle.std.specs.List.{range_with_len, slice_get, AllByRecursion}
 use Rattle.std.proofs.ByRecursion.{All-weaker}
 use Rattle.std.proofs.lemmas.List.{length-append, length-map}
 use Rattle.react_compiler_hir.specs.declared.rows.BlockRow.{BlockRow}
@@ -43,7 +43,7 @@ module _ (is : List InstructionRow) where
 
 -- numbers that go on from a
 pub record RunFrom (a : ℕ) (rs : List InstructionRow) (terminal : ℕ) : Type 0 where
-  pub least : All (λ r. a ≤ r.number) rs
+  pub least : AllByRecursion (λ r. a ≤ r.number) rs
   pub last : terminal ≡ a + length rs
 
 run_from : (a : ℕ) (rs : List InstructionRow) (t : ℕ) → map (λ r. r.number) rs ++ t ∷ [] ≡ range_with_len a (length (map (λ r. r.number) rs ++ t ∷ [])) → RunFrom a rs t
@@ -68,7 +68,7 @@ first_here is b a e = (elim (instructions_of is b) as (λ rs. instructions_of is
 -- the block at position k has the numbers after those before it
 pub record BlockNumbers (is : List InstructionRow) (bs : List BlockRow) (k : ℕ) (b : BlockRow) : Type 0 where
   pub first : block_first_number is b ≡ before is bs k + 1
-  pub least : All (λ r. before is bs k + 1 ≤ r.number) (instructions_of is b)
+  pub least : AllByRecursion (λ r. before is bs k + 1 ≤ r.number) (instructions_of is b)
   pub last : b.terminal_number ≡ before is bs (k + 1)
   pub next : before is bs k < before is bs (k + 1)
 

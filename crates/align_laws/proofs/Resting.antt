@@ -1,6 +1,6 @@
 -- A scope that is not active, and has the range that it was found with, rests until a place meets it.
 use Rattle.std.proofs.Common.{◌≡◌, ℕ, Bool, true, false, cond, not, ◌&&◌, eqb, ltb, List, [], ◌∷◌, Some, None, Option, sym, ap, ◌∙◌, subst, inl, inr}
-use Rattle.std.specs.List.{AllByRecursion as All}
+use Rattle.std.specs.List.{AllByRecursion}
 use Rattle.std.proofs.lemmas.Bool.{cases_Bool, cases_eq, and_left, or_from, cond-false, ne_eqb}
 use Rattle.react_compiler_hir.specs.declared.rows.MutableRange.{MutableRange}
 use Rattle.react_compiler_hir.specs.declared.rows.BlockRow.{BlockRow}
@@ -55,11 +55,11 @@ module _ (found : MutableRange) where
   ]
 
   module _ (ds : List IdentifierRow) (own : Option Node) (p : ℕ) where
-    rests_places : (number : ℕ) (r : Tracked) (is : List ℕ) → All (λ i. identifier_scope ds i ≡ Some p → contains found number ≡ true → ⊥) is → Rests found r → Rests found (places_run ds own p number r is)
+    rests_places : (number : ℕ) (r : Tracked) (is : List ℕ) → AllByRecursion (λ i. identifier_scope ds i ≡ Some p → contains found number ≡ true → ⊥) is → Rests found r → Rests found (places_run ds own p number r is)
     rests_places number r [] m h = h
     rests_places number r (i ∷ is) m h = rests_places number (scope_run own number p (identifier_scope ds i) r) is m.1 (rests_scope own number p (identifier_scope ds i) r m.0 h)
 
-    rests_instructions : (ws : List ℕ) (r : Tracked) (xs : List InstructionRow) → All (λ x. All (λ i. identifier_scope ds i ≡ Some p → contains found x.number ≡ true → ⊥) (instruction_mentions ws x)) xs → Rests found r → Rests found (instructions_run ds own p ws r xs)
+    rests_instructions : (ws : List ℕ) (r : Tracked) (xs : List InstructionRow) → AllByRecursion (λ x. AllByRecursion (λ i. identifier_scope ds i ≡ Some p → contains found x.number ≡ true → ⊥) (instruction_mentions ws x)) xs → Rests found r → Rests found (instructions_run ds own p ws r xs)
     rests_instructions ws r [] m h = h
     rests_instructions ws r (x ∷ xs) m h = rests_instructions ws (places_run ds own p x.number r (instruction_mentions ws x)) xs m.1 (rests_places x.number r (instruction_mentions ws x) m.0 h)
 

@@ -1,6 +1,6 @@
 -- An accepted align leaves sound rows where it found such.
 use Rattle.std.proofs.Common.{◌≡◌, ℕ, zero, suc, ◌+◌, ◌<◌, ◌≤◌, Bool, true, false, eqb, List, [], ◌∷◌, map, length, Some, None, Option, sym, refl, ap, ◌∙◌, subst, inl, inr, arith}
-use Rattle.std.specs.List.{slice_get, AllByRecursion as All}
+use Rattle.std.specs.List.{slice_get, AllByRecursion}
 use Rattle.std.proofs.ByRecursion.{All-map, All-weaker}
 use Rattle.std.proofs.lemmas.List.{length-map}
 use Rattle.std.proofs.lemmas.Bool.{cases_lt}
@@ -128,11 +128,11 @@ module _ (f : HirFunction) (found : Rows) (n counter : ℕ) (sound : Sound f fou
     few_scopes = subst (λ l. l ≤ 1024) (sym scopes_long) sound.few_scopes;
     few_identifiers = subst (λ l. l ≤ 16384) (sym identifiers_long) sound.few_identifiers;
     scopes_known = All-map (λ d. scope_known (length left.scopes) d ≡ true) (synced found.scopes left.scopes) found.identifiers
-        (subst (λ l. All (λ d. scope_known l d ≡ true) found.identifiers) (sym scopes_long) sound.scopes_known);
+        (subst (λ l. AllByRecursion (λ d. scope_known l d ≡ true) found.identifiers) (sym scopes_long) sound.scopes_known);
     blocks_fit = sound.blocks_fit;
-    blocks_known = subst (λ l. All (λ b. block_known f l b ≡ true) f.blocks) (sym identifiers_long) sound.blocks_known;
+    blocks_known = subst (λ l. AllByRecursion (λ b. block_known f l b ≡ true) f.blocks) (sym identifiers_long) sound.blocks_known;
     instructions_fit = sound.instructions_fit;
-    instructions_known = subst (λ l. All (λ b. All (λ r. instruction_known f l r ≡ true) (instructions_of f.instructions b)) f.blocks) (sym identifiers_long) sound.instructions_known;
+    instructions_known = subst (λ l. AllByRecursion (λ b. AllByRecursion (λ r. instruction_known f l r ≡ true) (instructions_of f.instructions b)) f.blocks) (sym identifiers_long) sound.instructions_known;
     numbered = sound.numbered;
     numbers = sound.numbers;
     named_sound = All-weaker (λ m. names_sound n found.scopes found.identifiers m.identifier ≡ true) (λ m. names_sound n left.scopes left.identifiers m.identifier ≡ true)

@@ -1,7 +1,7 @@
 -- In a bracketed function, a scope that was met before the end of a bracket and ends after it starts with the
 -- bracket or earlier.
 use Rattle.std.proofs.Common.{◌≡◌, ℕ, ◌+◌, ◌-◌, ◌<◌, ◌≤◌, true, ◌&&◌, ltb, List, length, Some, None, Option, sym, refl, ap, ◌∙◌, subst, inl, inr, arith}
-use Rattle.std.specs.List.{slice_get, AllByRecursion as All}
+use Rattle.std.specs.List.{slice_get, AllByRecursion}
 use Rattle.std.proofs.lemmas.Bool.{cases_lt, and_from, lt-ltb}
 use Rattle.react_compiler_hir.specs.declared.rows.BlockRow.{BlockRow}
 use Rattle.react_compiler_hir.specs.declared.rows.IdentifierRow.{IdentifierRow}
@@ -48,12 +48,12 @@ module _ (f : HirFunction) (found : Rows) (n counter : ℕ) (numbered : Numbered
 
   record Nested (k : ℕ) (w : Walk) : Type 0 where
     followed : Followed f found n counter numbered p known number met k w
-    earlier : All (OpenedBefore f k) w.marks.pending
+    earlier : AllByRecursion (OpenedBefore f k) w.marks.pending
 
   nested_more : (k : ℕ) (w v : Walk) (b : BlockRow) → slice_get f.blocks k ≡ Some b → Step f ds k w b v → Nested k w → Nested (k + 1) v
   nested_more k w v b e s h = record {
     followed = followed_more f found n counter numbered p known number met k w v b e s h.followed;
-    earlier = subst (All (OpenedBefore f (k + 1))) (sym s.pends) (opened_more f k b e w.marks.pending h.earlier);
+    earlier = subst (AllByRecursion (OpenedBefore f (k + 1))) (sym s.pends) (opened_more f k b e w.marks.pending h.earlier);
   }
 
   -- from the block after that of a bracket to its fallthrough

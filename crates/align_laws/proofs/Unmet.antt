@@ -1,6 +1,6 @@
 -- A scope that is met nowhere is as it was.
 use Rattle.std.proofs.Common.{◌≡◌, ℕ, zero, suc, ◌<◌, true, List, [], ◌∷◌, map, length, Some, sym, refl, ap, ◌∙◌, subst, inl, inr, arith}
-use Rattle.std.specs.List.{slice_get, ContainsAt as Has, AllByRecursion as All}
+use Rattle.std.specs.List.{slice_get, ContainsAt, AllByRecursion}
 use Rattle.std.proofs.ByRecursion.{All-weaker, all_has_itself}
 use Rattle.std.proofs.lemmas.List.{get_or_past}
 use Rattle.std.proofs.lemmas.Bool.{cases_lt}
@@ -36,9 +36,9 @@ module _ (f : HirFunction) (found : Rows) (counter p : ℕ) (unmet : (number : �
   abbrev was : MutableRange
   was = (at from.scopes p).range
 
-  no_place : All (λ x. identifier_scope ds x.identifier ≡ Some p → contains was x.number ≡ true → ⊥) (mentions f)
+  no_place : AllByRecursion (λ x. identifier_scope ds x.identifier ≡ Some p → contains was x.number ≡ true → ⊥) (mentions f)
   no_place =
-      All-weaker (Has (mentions f)) (λ x. identifier_scope ds x.identifier ≡ Some p → contains was x.number ≡ true → ⊥)
+      All-weaker (ContainsAt (mentions f)) (λ x. identifier_scope ds x.identifier ≡ Some p → contains was x.number ≡ true → ⊥)
       (λ x h s c. unmet x.number (record {
         place = x;
         among = h;

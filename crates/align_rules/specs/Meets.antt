@@ -1,6 +1,6 @@
 -- Which scopes a function meets, and which functions are bracketed.
 use Rattle.std.specs.Prelude.{◌≡◌, ℕ, ◌<◌, true, Some}
-use Rattle.std.specs.List.{ContainsAt as Has}
+use Rattle.std.specs.List.{ContainsAt}
 use Rattle.react_compiler_hir.specs.Function.{HirFunction}
 use Rattle.visitors.specs.Mentions.{Mention, mentions}
 use Rattle.rules.specs.Rows.{Rows, contains, identifier_scope, scope_range}
@@ -10,7 +10,7 @@ use Rattle.align_rules.specs.Brackets.{Bracket, bracket_at}
 -- scope's range contains it
 pub record Met (f : HirFunction) (rows : Rows) (scope number : ℕ) : Type 0 where
   pub place : Mention
-  pub among : Has (mentions f) place
+  pub among : ContainsAt (mentions f) place
   pub numbered : place.number ≡ number
   pub has_scope : identifier_scope rows.identifiers place.identifier ≡ Some scope
   pub within : contains (scope_range rows.scopes scope) number ≡ true

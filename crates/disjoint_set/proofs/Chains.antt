@@ -1,6 +1,6 @@
 -- Two items have one class after some unions exactly when a chain joins them.
 use Rattle.std.proofs.Common.{◌≡◌, ℕ, ◌<◌, true, cond, eqb, List, [], ◌∷◌, map, length, sym, refl, ap, ◌∙◌, inl, inr, arith}
-use Rattle.std.specs.List.{AllByRecursion as All}
+use Rattle.std.specs.List.{AllByRecursion}
 use Rattle.std.proofs.lemmas.Bool.{cases_Bool, eq-eqb, eqb-true, or_cases, or_left, or_right}
 use Rattle.disjoint_set.specs.Forest.{Forest, root}
 use Rattle.disjoint_set.specs.Joins.{joined, joined_all}
@@ -94,19 +94,19 @@ sent_chain c (xs ∷ xss) i j e = chain_earlier c xs xss i j (sent_chain (sent c
 
 -- ---- classes are roots
 
-sent_agree : (c d : ℕ → ℕ) (n : ℕ) → ((i : ℕ) → i < n → c i ≡ d i) → (xs : List ℕ) → All (λ x. x < n) xs → (j : ℕ) → j < n → sent c xs j ≡ sent d xs j
+sent_agree : (c d : ℕ → ℕ) (n : ℕ) → ((i : ℕ) → i < n → c i ≡ d i) → (xs : List ℕ) → AllByRecursion (λ x. x < n) xs → (j : ℕ) → j < n → sent c xs j ≡ sent d xs j
 sent_agree c d n same [] w j h = same j h
 sent_agree c d n same (x ∷ xs) w j h = let at_j = same j h in let at_x = same x w.0 in let rest = map_agree c d n same xs w.1 in cc
 
-sent_all_agree : (c d : ℕ → ℕ) (n : ℕ) → ((i : ℕ) → i < n → c i ≡ d i) → (xss : List (List ℕ)) → All (All (λ x. x < n)) xss → (j : ℕ) → j < n → sent_all c xss j ≡ sent_all d xss j
+sent_all_agree : (c d : ℕ → ℕ) (n : ℕ) → ((i : ℕ) → i < n → c i ≡ d i) → (xss : List (List ℕ)) → AllByRecursion (AllByRecursion (λ x. x < n)) xss → (j : ℕ) → j < n → sent_all c xss j ≡ sent_all d xss j
 sent_all_agree c d n same [] w j h = same j h
 sent_all_agree c d n same (xs ∷ xss) w j h = sent_all_agree (sent c xs) (sent d xs) n (sent_agree c d n same xs w.0) xss w.1 j h
 
-pub joined_all_roots : (ps : List ℕ) (xss : List (List ℕ)) → Forest ps → All (All (λ x. x < length ps)) xss → (j : ℕ) → j < length ps → root (joined_all ps xss) j ≡ sent_all (root ps) xss j
+pub joined_all_roots : (ps : List ℕ) (xss : List (List ℕ)) → Forest ps → AllByRecursion (AllByRecursion (λ x. x < length ps)) xss → (j : ℕ) → j < length ps → root (joined_all ps xss) j ≡ sent_all (root ps) xss j
 joined_all_roots ps [] f w j h = refl
 joined_all_roots ps (xs ∷ xss) f w j h =
     let r = joined_rooted ps xs f w.0 in
-    let w' : All (All (λ x. x < length (joined ps xs))) xss = rw r.long w.1 in
+    let w' : AllByRecursion (AllByRecursion (λ x. x < length (joined ps xs))) xss = rw r.long w.1 in
     joined_all_roots (joined ps xs) xss r.forest w' j (omega (arith, r.long)) ∙ sent_all_agree (root (joined ps xs)) (sent (root ps) xs) (length ps) r.roots xss w.1 j h
 
 pub one_root_by_chains : OneRootExactlyByChains

@@ -1,6 +1,6 @@
 -- What a union leaves: each class that the items meet goes to the root of the first.
 use Rattle.std.proofs.Common.{◌≡◌, ℕ, ◌+◌, ◌<◌, ◌≤◌, Bool, cond, ◌||◌, eqb, ◌≢◌, List, [], ◌∷◌, map, length, get_or, drop, set, sym, refl, ap, ◌∙◌, inl, inr, arith}
-use Rattle.std.specs.List.{AllByRecursion as All}
+use Rattle.std.specs.List.{AllByRecursion}
 use Rattle.std.proofs.ByRecursion.{All-weaker}
 use Rattle.std.proofs.lemmas.List.{set-get_or, at_drop_more, at_drop_all}
 use Rattle.std.proofs.lemmas.Bool.{cases_eq, eq-eqb, ne_eqb}
@@ -13,7 +13,7 @@ use Rattle.disjoint_set.proofs.Grafts.{Rooted, linked_rooted}
 use Rattle.disjoint_set.proofs.Finds.{compressed_rooted}
 
 -- functions that agree below n map items below n alike
-pub map_agree : (c d : ℕ → ℕ) (n : ℕ) → ((i : ℕ) → i < n → c i ≡ d i) → (xs : List ℕ) → All (λ x. x < n) xs → map c xs ≡ map d xs
+pub map_agree : (c d : ℕ → ℕ) (n : ℕ) → ((i : ℕ) → i < n → c i ≡ d i) → (xs : List ℕ) → AllByRecursion (λ x. x < n) xs → map c xs ≡ map d xs
 map_agree c d n same [] w = refl
 map_agree c d n same (x ∷ xs) w = let hd = same x w.0 in let tl = map_agree c d n same xs w.1 in cc
 
@@ -77,17 +77,17 @@ module _ (ps : List ℕ) (f : Forest ps) (t : ℕ) (ht : t < length ps) (own : r
   pub attached_own : (x : ℕ) → x < length ps → root (attached ps t x) t ≡ t
   attached_own x hx = (attached_rooted x hx).roots t ht ∙ rw own (cond_same (eqb t (root ps x)) t)
 
-within_still : (ps qs xs : List ℕ) → length qs ≡ length ps → All (λ x. x < length ps) xs → All (λ x. x < length qs) xs
+within_still : (ps qs xs : List ℕ) → length qs ≡ length ps → AllByRecursion (λ x. x < length ps) xs → AllByRecursion (λ x. x < length qs) xs
 within_still ps qs xs e w = All-weaker (λ x. x < length ps) (λ x. x < length qs) (λ x h. omega (arith, e)) xs w
 
 -- where each item goes when the classes of the items go to the root t
 abbrev sent_to : (ℕ → ℕ) → ℕ → List ℕ → ℕ → ℕ
 sent_to class t xs j = cond (among (class j) (map class xs)) t (class j)
 
-sent_to_agree : (c d : ℕ → ℕ) (n t : ℕ) → ((i : ℕ) → i < n → c i ≡ d i) → (xs : List ℕ) → All (λ x. x < n) xs → (j : ℕ) → j < n → sent_to c t xs j ≡ sent_to d t xs j
+sent_to_agree : (c d : ℕ → ℕ) (n t : ℕ) → ((i : ℕ) → i < n → c i ≡ d i) → (xs : List ℕ) → AllByRecursion (λ x. x < n) xs → (j : ℕ) → j < n → sent_to c t xs j ≡ sent_to d t xs j
 sent_to_agree c d n t same xs w j h = rw (same j h, map_agree c d n same xs w)
 
-attached_all_rooted : (ps : List ℕ) (t : ℕ) (xs : List ℕ) → Forest ps → t < length ps → root ps t ≡ t → All (λ x. x < length ps) xs → Rooted ps (attached_all ps t xs) (sent_to (root ps) t xs)
+attached_all_rooted : (ps : List ℕ) (t : ℕ) (xs : List ℕ) → Forest ps → t < length ps → root ps t ≡ t → AllByRecursion (λ x. x < length ps) xs → Rooted ps (attached_all ps t xs) (sent_to (root ps) t xs)
 attached_all_rooted ps t [] f ht own w = record { forest = f; long = refl; roots = λ j h. refl }
 attached_all_rooted ps t (x ∷ xs) f ht own w =
     let a = attached_rooted ps f t ht own x w.0 in
@@ -99,7 +99,7 @@ attached_all_rooted ps t (x ∷ xs) f ht own w =
       roots = λ j h. r.roots j (omega (arith, a.long)) ∙ sent_to_agree (root qs) (λ y. cond (eqb (root ps y) (root ps x)) t (root ps y)) (length ps) t a.roots xs w.1 j h ∙ sent_more (root ps) (root ps x) t xs j;
     }
 
-pub joined_rooted : (ps xs : List ℕ) → Forest ps → All (λ x. x < length ps) xs → Rooted ps (joined ps xs) (sent (root ps) xs)
+pub joined_rooted : (ps xs : List ℕ) → Forest ps → AllByRecursion (λ x. x < length ps) xs → Rooted ps (joined ps xs) (sent (root ps) xs)
 joined_rooted ps [] f w = record { forest = f; long = refl; roots = λ j h. refl }
 joined_rooted ps (x ∷ xs) f w =
     let q = compressed_rooted ps f x w.0 in

@@ -1,6 +1,6 @@
 -- What the definitions mean, in words that do not follow their steps.
 use Rattle.std.specs.Prelude.{◌≡◌, ℕ, ◌<◌, cond, List, length, slice_index}
-use Rattle.std.specs.List.{AllByRecursion as All}
+use Rattle.std.specs.List.{AllByRecursion}
 use Rattle.disjoint_set.specs.Forest.{Climb, Forest, root, passed, height, compressed}
 use Rattle.disjoint_set.specs.Joins.{joined_all}
 use Rattle.disjoint_set.specs.Classes.{among, Step, Chain}
@@ -16,6 +16,6 @@ FindHangsWhatItPasses = (ps : List ℕ) (i j : ℕ) → j < length ps → slice_
 -- after lists of items were joined, one after the other, two items have one root exactly when a chain leads from the
 -- one to the other, each step of which stays in one class of before or in one of the lists
 abbrev pub OneRootExactlyByChains : Type 0
-OneRootExactlyByChains = (ps : List ℕ) (xss : List (List ℕ)) → Forest ps → All (All (λ x. x < length ps)) xss → (i j : ℕ) → i < length ps → j < length ps
+OneRootExactlyByChains = (ps : List ℕ) (xss : List (List ℕ)) → Forest ps → AllByRecursion (AllByRecursion (λ x. x < length ps)) xss → (i j : ℕ) → i < length ps → j < length ps
     → (root (joined_all ps xss) i ≡ root (joined_all ps xss) j → Chain (Step (root ps) xss) i j)
     × (Chain (Step (root ps) xss) i j → root (joined_all ps xss) i ≡ root (joined_all ps xss) j)

@@ -4,7 +4,7 @@
 #![tactic(auto)]
 
 ghost use Rattle.std.specs.Prelude.{◌≡◌, ℕ, ◌^◌, ◌<◌, ◌≤◌, length};
-ghost use Rattle.std.specs.List.{AllByRecursion as All};
+ghost use Rattle.std.specs.List.{AllByRecursion};
 ghost use Rattle.disjoint_set.specs.Forest.{Forest, root, apart, compressed};
 ghost use Rattle.disjoint_set.specs.Joins.{attached, joined};
 ghost use Rattle.disjoint_set.specs.Classes.{sent};
@@ -54,7 +54,7 @@ impl DisjointSet<'_> {
     // Puts the sets of the items into one, under the root of the first.
     pub fn union(&mut self, items: &[u32])
         requires forest { Forest self.old.parents.now }
-        requires within { All (λ x. x < length self.old.parents.now) items.now }
+        requires within { AllByRecursion (λ x. x < length self.old.parents.now) items.now }
         ensures words { self.new.parents.now ≡ joined self.old.parents.now items.now }
         ensures forest { Forest self.new.parents.now }
         ensures classes { (j : ℕ) → j < length self.old.parents.now → root self.new.parents.now j ≡ sent (root self.old.parents.now) items.now j }

@@ -1,6 +1,6 @@
 -- What tests in a row say of a function when none of them gives a fault.
 use Rattle.std.proofs.Common.{◌≡◌, ℕ, ◌+◌, Bool, true, false, List, [], ◌∷◌, Ok, Err, Result, refl, arith}
-use Rattle.std.specs.List.{AllByRecursion as All}
+use Rattle.std.specs.List.{AllByRecursion}
 use Rattle.std.proofs.lemmas.Bool.{and_parts}
 use Rattle.hir_faults.specs.declared.fault.Envelope.{Envelope}
 use Rattle.hir_faults.specs.declared.fault.Fault.{Fault}
@@ -30,7 +30,7 @@ pub unless_then_passed : {Y : Type 0} (holds : Bool) (fault : Envelope Fault) (n
 unless_then_passed true fault next y e = (refl, e)
 unless_then_passed false fault next y e = let z : ◌≡◌ {A = ℕ} 0 1 = cc in absurd (omega arith)
 
-pub all_true : {X : Type 0} (test : X → Bool) (xs : List X) → all test xs ≡ true → All (λ x. test x ≡ true) xs
+pub all_true : {X : Type 0} (test : X → Bool) (xs : List X) → all test xs ≡ true → AllByRecursion (λ x. test x ≡ true) xs
 all_true test [] e = tt
 all_true test (x ∷ xs) e =
     let both = and_parts (test x) (all test xs) e in
@@ -38,7 +38,7 @@ all_true test (x ∷ xs) e =
 
 -- what a test says of the element that passes it holds of every element of a walk
 module _ {X M E : Type 0} (test : ℕ → M → X → Result M E) (P : X → Type 0) (passed : (i : ℕ) (m k : M) (x : X) → test i m x ≡ Ok k → P x) where
-  pub walked_passed : (i : ℕ) (m k : M) (xs : List X) → walked test i m xs ≡ Ok k → All P xs
+  pub walked_passed : (i : ℕ) (m k : M) (xs : List X) → walked test i m xs ≡ Ok k → AllByRecursion P xs
   walked_passed i m k [] e = tt
   walked_passed i m k (x ∷ xs) e =
       let w = then_passed (test i m x) (λ l. walked test (i + 1) l xs) k e in

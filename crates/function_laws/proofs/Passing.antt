@@ -1,6 +1,6 @@
 -- A function that passes all the tests is sound: each part of it, from the test that looks at it.
 use Rattle.std.proofs.Common.{◌≡◌, ℕ, true, not, ◌&&◌, eqb, leb, List, length, Ok, arith}
-use Rattle.std.specs.List.{AllByRecursion as All}
+use Rattle.std.specs.List.{AllByRecursion}
 use Rattle.std.proofs.lemmas.Bool.{and_parts, leb-true, not-true, eqb-false}
 use Rattle.std.proofs.ByRecursion.{All-weaker}
 use Rattle.hir_faults.specs.declared.fault.FunctionFault.TheVariants.{OverLimit, NoBlock, NotInTable}
@@ -31,8 +31,8 @@ record TablesPassed (f : HirFunction) (ss : List ScopeRow) (ds : List Identifier
 record RowsPassed (f : HirFunction) (identifiers : ℕ) (b : BlockRow) : Type 0 where
   fits : block_fits f b ≡ true
   known : block_known f identifiers b ≡ true
-  run_fits : All (λ r. instruction_fits f r ≡ true) (instructions_of f.instructions b)
-  run_known : All (λ r. instruction_known f identifiers r ≡ true) (instructions_of f.instructions b)
+  run_fits : AllByRecursion (λ r. instruction_fits f r ≡ true) (instructions_of f.instructions b)
+  run_known : AllByRecursion (λ r. instruction_known f identifiers r ≡ true) (instructions_of f.instructions b)
 
 tables_passed : (kind : ℕ) (f : HirFunction) (ss : List ScopeRow) (ds : List IdentifierRow) (memory : Memory) (u : Unit {0}) → tables_tested kind f ss ds memory ≡ Ok u → TablesPassed f ss ds
 tables_passed kind f ss ds memory u e =
@@ -74,7 +74,7 @@ function_passed kind f ss ds memory n e =
     let l2 = and_parts (blocks && instructions) words l3.0 in
     let l1 = and_parts blocks instructions l2.0 in
     let some = eqb-false (length bs) 0 (not-true (eqb (length bs) 0) tables.some) in
-    let rows : All (RowsPassed f (length ds)) bs =
+    let rows : AllByRecursion (RowsPassed f (length ds)) bs =
     walked_passed (block_walked kind f (length ds)) (RowsPassed f (length ds)) (rows_passed kind f (length ds)) 0 0 n bs walks.1 in
     let numbered = blocks_numbered kind f (length ds) 0 0 n bs walks.1 in
     let counted = numbers_counted f.instructions 0 n bs numbered in
@@ -89,8 +89,8 @@ function_passed kind f ss ds memory n e =
       scopes_known = all_true (scope_known (length ss)) ds tables.known;
       blocks_fit = All-weaker (RowsPassed f (length ds)) (λ b. block_fits f b ≡ true) (λ b r. r.fits) bs rows;
       blocks_known = All-weaker (RowsPassed f (length ds)) (λ b. block_known f (length ds) b ≡ true) (λ b r. r.known) bs rows;
-      instructions_fit = All-weaker (RowsPassed f (length ds)) (λ b. All (λ r. instruction_fits f r ≡ true) (instructions_of f.instructions b)) (λ b r. r.run_fits) bs rows;
-      instructions_known = All-weaker (RowsPassed f (length ds)) (λ b. All (λ r. instruction_known f (length ds) r ≡ true) (instructions_of f.instructions b)) (λ b r. r.run_known) bs rows;
+      instructions_fit = All-weaker (RowsPassed f (length ds)) (λ b. AllByRecursion (λ r. instruction_fits f r ≡ true) (instructions_of f.instructions b)) (λ b r. r.run_fits) bs rows;
+      instructions_known = All-weaker (RowsPassed f (length ds)) (λ b. AllByRecursion (λ r. instruction_known f (length ds) r ≡ true) (instructions_of f.instructions b)) (λ b r. r.run_known) bs rows;
       numbered = numbered;
       numbers = rw until at counted.0;
       named_sound = named_sound kind f ss ds n walks.0 walks.2;

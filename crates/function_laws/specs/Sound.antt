@@ -1,6 +1,6 @@
 -- What holds of a function and its tables where no fault is due.
 use Rattle.std.specs.Prelude.{◌≡◌, ℕ, ◌+◌, ◌<◌, ◌≤◌, true, List, [], ◌∷◌, ◌++◌, length}
-use Rattle.std.specs.List.{range_with_len, AllByRecursion as All}
+use Rattle.std.specs.List.{range_with_len, AllByRecursion}
 use Rattle.react_compiler_hir.specs.declared.rows.BlockRow.{BlockRow}
 use Rattle.react_compiler_hir.specs.declared.rows.InstructionRow.{InstructionRow}
 use Rattle.react_compiler_hir.specs.declared.rows.ScopeRow.{ScopeRow}
@@ -30,14 +30,14 @@ pub record Sound (f : HirFunction) (ss : List ScopeRow) (ds : List IdentifierRow
   pub few_scopes : length ss ≤ 1024
   pub few_identifiers : length ds ≤ 16384
   -- the scope of every identifier is in the table
-  pub scopes_known : All (λ d. scope_known (length ss) d ≡ true) ds
+  pub scopes_known : AllByRecursion (λ d. scope_known (length ss) d ≡ true) ds
   -- every row's run, list, kinds and part counts are in their ranges, and what it mentions is in its table
-  pub blocks_fit : All (λ b. block_fits f b ≡ true) f.blocks
-  pub blocks_known : All (λ b. block_known f (length ds) b ≡ true) f.blocks
-  pub instructions_fit : All (λ b. All (λ r. instruction_fits f r ≡ true) (instructions_of f.instructions b)) f.blocks
-  pub instructions_known : All (λ b. All (λ r. instruction_known f (length ds) r ≡ true) (instructions_of f.instructions b)) f.blocks
+  pub blocks_fit : AllByRecursion (λ b. block_fits f b ≡ true) f.blocks
+  pub blocks_known : AllByRecursion (λ b. block_known f (length ds) b ≡ true) f.blocks
+  pub instructions_fit : AllByRecursion (λ b. AllByRecursion (λ r. instruction_fits f r ≡ true) (instructions_of f.instructions b)) f.blocks
+  pub instructions_known : AllByRecursion (λ b. AllByRecursion (λ r. instruction_known f (length ds) r ≡ true) (instructions_of f.instructions b)) f.blocks
   -- the numbers walked are 1 to n, block after block
   pub numbered : Numbered f.instructions 0 f.blocks n
   pub numbers : numbers_of f.instructions f.blocks ≡ range_with_len 1 n
   -- every named scope is empty, or lies within 1 to n + 1
-  pub named_sound : All (λ m. names_sound n ss ds m.identifier ≡ true) (mentions f)
+  pub named_sound : AllByRecursion (λ m. names_sound n ss ds m.identifier ≡ true) (mentions f)

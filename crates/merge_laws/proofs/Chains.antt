@@ -1,6 +1,6 @@
 -- A chain of links leads from one scope to another if, and only if, they share their root.
 use Rattle.std.proofs.Common.{◌≡◌, ℕ, ◌<◌, List, [], ◌∷◌, sym, refl, ◌∙◌, subst, inl, inr, arith}
-use Rattle.std.specs.List.{AllByRecursion as All}
+use Rattle.std.specs.List.{AllByRecursion}
 use Rattle.react_compiler_hir.specs.Function.{HirFunction}
 use Rattle.function_laws.specs.Sound.{Sound}
 use Rattle.rules.specs.Rows.{Rows, scope_range}
@@ -42,7 +42,7 @@ module _ (f : HirFunction) (rows : Rows) where
     | inr m ↦ (let l = all_in (Linked f rows x) xs i tied m in (on start (linked_back x i l), on start l))
   ]
 
-  together_chain : (xss : List (List ℕ)) → All (Tied (Linked f rows)) xss → (i j : ℕ) → Together xss i j → LinkChain f rows i j
+  together_chain : (xss : List (List ℕ)) → AllByRecursion (Tied (Linked f rows)) xss → (i j : ℕ) → Together xss i j → LinkChain f rows i j
   together_chain [] a i j h = absurd h
   together_chain ([] ∷ xss) a i j h = elim h [ inl both ↦ absurd both.0 | inr later ↦ together_chain xss a.1 i j later ]
   together_chain ((x ∷ xs) ∷ xss) a i j h = elim h [
@@ -50,12 +50,12 @@ module _ (f : HirFunction) (rows : Rows) where
     | inr later ↦ together_chain xss a.1 i j later
   ]
 
-  step_chain : (xss : List (List ℕ)) → All (Tied (Linked f rows)) xss → (i j : ℕ) → Step (λ p. p) xss i j → LinkChain f rows i j
+  step_chain : (xss : List (List ℕ)) → AllByRecursion (Tied (Linked f rows)) xss → (i j : ℕ) → Step (λ p. p) xss i j → LinkChain f rows i j
   step_chain xss a i j (inl e) = subst (λ z. LinkChain f rows i z) e start
   step_chain xss a i j (inr t) = together_chain xss a i j t
 
   module _ (n : ℕ) (sound : Sound f rows.scopes rows.identifiers n) where
-    joins_tied : All (Tied (Linked f rows)) (joins_of f rows)
+    joins_tied : AllByRecursion (Tied (Linked f rows)) (joins_of f rows)
     joins_tied =
         replayed_tied (timetable f rows) (starting f rows) (Live f rows) (course f rows n sound) (λ p t. Touched f rows p t) (Linked f rows) (linking f rows) 0 outset (visits f rows)
         (visits_follow f rows n sound) (nothing_stands f rows n sound) (all_touched (visits f rows)) tt

@@ -1,6 +1,6 @@
 -- The scopes that open or close at a number are the live ones that start or end there, in order.
 use Rattle.std.proofs.Common.{◌≡◌, ℕ, ◌+◌, Bool, true, false, ◌⊎◌, List, [], ◌∷◌, map, filter, sym, refl, inl, inr}
-use Rattle.std.specs.List.{AllByRecursion as All}
+use Rattle.std.specs.List.{AllByRecursion}
 use Rattle.std.proofs.ByRecursion.{all_kept_by, kept_by_passes}
 use Rattle.std.proofs.lemmas.Bool.{cases_Bool, ne_eqb, eqb-false}
 use Rattle.react_compiler_hir.specs.declared.rows.ScopeRow.{ScopeRow}
@@ -59,25 +59,25 @@ ordered_kept lt test (e ∷ es) h = elim (cases_Bool (test e)) [
 
 -- a relation that the order of two entries gives of their scopes
 ordered_ranked : (lt : ScopeEntry → ScopeEntry → Bool) (P : ScopeEntry → Type 0) (R : ℕ → ℕ → Type 0) → ((x y : ScopeEntry) → P x → P y → lt y x ≡ false → R x.scope y.scope)
-    → (es : List ScopeEntry) → All P es → Ordered lt es → Ranked R (map (λ e. e.scope) es)
+    → (es : List ScopeEntry) → AllByRecursion P es → Ordered lt es → Ranked R (map (λ e. e.scope) es)
 ordered_ranked lt P R gives [] a h = tt
 ordered_ranked lt P R gives (e ∷ es) a h = (over es a.1 h.0, ordered_ranked lt P R gives es a.1 h.1)
   where
-    over : (ys : List ScopeEntry) → All P ys → All (λ y. lt y e ≡ false) ys → All (R e.scope) (map (λ y. y.scope) ys)
+    over : (ys : List ScopeEntry) → AllByRecursion P ys → AllByRecursion (λ y. lt y e ≡ false) ys → AllByRecursion (R e.scope) (map (λ y. y.scope) ys)
     over [] b g = tt
     over (y ∷ ys) b g = (gives e y a.0 b.0 g.0, over ys b.1 g.1)
 
-all_both : {X : Type 0} (P Q : X → Type 0) (xs : List X) → All P xs → All Q xs → All (λ x. P x × Q x) xs
+all_both : {X : Type 0} (P Q : X → Type 0) (xs : List X) → AllByRecursion P xs → AllByRecursion Q xs → AllByRecursion (λ x. P x × Q x) xs
 all_both P Q [] a b = tt
 all_both P Q (x ∷ xs) a b = ((a.0, b.0), all_both P Q xs a.1 b.1)
 
 -- what holds of the entries kept by a test, with the test
-pub kept_all : (P : ScopeEntry → Type 0) (test : ScopeEntry → Bool) (es : List ScopeEntry) → All P es → All (λ e. P e × (test e ≡ true)) (filter test es)
+pub kept_all : (P : ScopeEntry → Type 0) (test : ScopeEntry → Bool) (es : List ScopeEntry) → AllByRecursion P es → AllByRecursion (λ e. P e × (test e ≡ true)) (filter test es)
 kept_all P test es a = all_both P (λ e. test e ≡ true) (filter test es) (all_kept_by test P es a) (kept_by_passes test es)
 
 pub kept_ranked : (lt : ScopeEntry → ScopeEntry → Bool) (test : ScopeEntry → Bool) (P : ScopeEntry → Type 0) (R : ℕ → ℕ → Type 0)
     → ((x y : ScopeEntry) → P x × (test x ≡ true) → P y × (test y ≡ true) → lt y x ≡ false → R x.scope y.scope)
-    → (es : List ScopeEntry) → All P es → Ordered lt es → Ranked R (map (λ e. e.scope) (filter test es))
+    → (es : List ScopeEntry) → AllByRecursion P es → Ordered lt es → Ranked R (map (λ e. e.scope) (filter test es))
 kept_ranked lt test P R gives es a h = ordered_ranked lt (λ e. P e × (test e ≡ true)) R gives (filter test es) (kept_all P test es a) (ordered_kept lt test es h)
 
 -- ---- the entries of scopes
@@ -89,7 +89,7 @@ pub record Of (ss : List ScopeRow) (ps : List ℕ) (e : ScopeEntry) : Type 0 whe
   pub starts : e.start ≡ (scope_range ss e.scope).start
   pub ends : e.end ≡ (scope_range ss e.scope).end
 
-pub all_entries : (ss : List ScopeRow) (all ps : List ℕ) (k : ℕ) → ((p : ℕ) → In p ps → In p all) → All (Of ss all) (entries_from ss k ps)
+pub all_entries : (ss : List ScopeRow) (all ps : List ℕ) (k : ℕ) → ((p : ℕ) → In p ps → In p all) → AllByRecursion (Of ss all) (entries_from ss k ps)
 all_entries ss all [] k within = tt
 all_entries ss all (p ∷ ps) k within = elim (cases_Bool (is_empty (scope_range ss p))) [
   | inl t ↦ rw t (all_entries ss all ps k (λ q h. within q (inr h)))

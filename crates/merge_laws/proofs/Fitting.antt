@@ -1,6 +1,6 @@
 -- The scopes of a sound function run as the laws need it.
 use Rattle.std.proofs.Common.{◌≡◌, ℕ, ◌<◌, ◌≤◌, Bool, true, eqb, ltb, leb, [], map, filter, sym, ◌∙◌, inl, arith}
-use Rattle.std.specs.List.{range_with_len, AllByRecursion as All}
+use Rattle.std.specs.List.{range_with_len, AllByRecursion}
 use Rattle.std.proofs.ByRecursion.{All-map, All-weaker}
 use Rattle.std.proofs.lemmas.Bool.{and_parts, and_from, eq-eqb, eqb-true, leb-true, ltb-true, le-leb, lt-ltb}
 use Rattle.react_compiler_hir.specs.declared.rows.MutableRange.{MutableRange}
@@ -38,7 +38,7 @@ module _ (f : HirFunction) (rows : Rows) where
   abbrev Entry : ScopeEntry → Type 0
   Entry e = Of rows.scopes (named_scopes f rows) e
 
-  entries : All Entry (named_entries f rows)
+  entries : AllByRecursion Entry (named_entries f rows)
   entries = all_entries rows.scopes (named_scopes f rows) (named_scopes f rows) 0 (λ p h. h)
 
   entry_lives : (e : ScopeEntry) → Entry e → Live f rows e.scope
@@ -49,10 +49,10 @@ module _ (f : HirFunction) (rows : Rows) where
 
   -- ---- opening
 
-  opening_entries : All Entry (opening_order f rows)
+  opening_entries : AllByRecursion Entry (opening_order f rows)
   opening_entries = all_insert_all Entry opens_before (named_entries f rows) [] entries tt
 
-  all_opening : (t : ℕ) → All (λ p. Live f rows p × (starting p ≡ t)) (opening_at (opening_order f rows) t)
+  all_opening : (t : ℕ) → AllByRecursion (λ p. Live f rows p × (starting p ≡ t)) (opening_at (opening_order f rows) t)
   all_opening t =
       let test : ScopeEntry → Bool = λ e. eqb e.start t in
       let kept = filter test (opening_order f rows) in
@@ -79,10 +79,10 @@ module _ (f : HirFunction) (rows : Rows) where
 
   -- ---- closing
 
-  closing_entries : All Entry (closing_order f rows)
+  closing_entries : AllByRecursion Entry (closing_order f rows)
   closing_entries = all_insert_all Entry closes_before (named_entries f rows) [] entries tt
 
-  all_closing : (t : ℕ) → All (λ p. Live f rows p × (ending p ≡ t)) (closing_at (closing_order f rows) t)
+  all_closing : (t : ℕ) → AllByRecursion (λ p. Live f rows p × (ending p ≡ t)) (closing_at (closing_order f rows) t)
   all_closing t =
       let test : ScopeEntry → Bool = λ e. eqb e.end t in
       let kept = filter test (closing_order f rows) in

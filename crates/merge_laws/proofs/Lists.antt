@@ -1,6 +1,6 @@
 -- Membership, and lists in which each element bears a relation to all after it.
 use Rattle.std.proofs.Common.{◌≡◌, ℕ, not, eqb, ◌⊎◌, List, [], ◌∷◌, ◌++◌, sym, refl, ◌∙◌, subst, inl, inr}
-use Rattle.std.specs.List.{AllByRecursion as All}
+use Rattle.std.specs.List.{AllByRecursion}
 use Rattle.std.proofs.ByRecursion.{All-append, all_kept_by}
 use Rattle.std.proofs.lemmas.Bool.{cases_Bool, cases_eq, eq-eqb, ne_eqb}
 use Rattle.disjoint_set.specs.Classes.{In}
@@ -23,11 +23,11 @@ in_either x (y ∷ xs) ys h = elim h [
   | inr m ↦ elim (in_either x xs ys m) [ inl l ↦ inl (inr l) | inr r ↦ inr r ]
 ]
 
-pub all_in : (P : ℕ → Type 0) (xs : List ℕ) (x : ℕ) → All P xs → In x xs → P x
+pub all_in : (P : ℕ → Type 0) (xs : List ℕ) (x : ℕ) → AllByRecursion P xs → In x xs → P x
 all_in P [] x a h = absurd h
 all_in P (y ∷ ys) x a h = elim h [ inl e ↦ subst P (sym e) a.0 | inr m ↦ all_in P ys x a.1 m ]
 
-pub all_from_in : (P : ℕ → Type 0) (xs : List ℕ) → ((x : ℕ) → In x xs → P x) → All P xs
+pub all_from_in : (P : ℕ → Type 0) (xs : List ℕ) → ((x : ℕ) → In x xs → P x) → AllByRecursion P xs
 all_from_in P [] h = tt
 all_from_in P (x ∷ xs) h = (h x (inl refl), all_from_in P xs (λ y m. h y (inr m)))
 
@@ -85,7 +85,7 @@ above_or_below p q (x ∷ xs) hp hq = elim (cases_eq p x) [
 
 abbrev pub Ranked : (ℕ → ℕ → Type 0) → List ℕ → Type 0
 Ranked R [] = Unit {0}
-Ranked R (x ∷ xs) = All (R x) xs × Ranked R xs
+Ranked R (x ∷ xs) = AllByRecursion (R x) xs × Ranked R xs
 
 module _ (R : ℕ → ℕ → Type 0) where
   pub ranked_without : (p : ℕ) (xs : List ℕ) → Ranked R xs → Ranked R (without p xs)
@@ -107,7 +107,7 @@ module _ (R : ℕ → ℕ → Type 0) where
     | inr n ↦ ranked_above p y xs a.1 (rw (ne_eqb p x n) at h)
   ]
 
-  pub ranked_weaker : (P : ℕ → Type 0) (S : ℕ → ℕ → Type 0) → ((x y : ℕ) → P x → P y → R x y → S x y) → (xs : List ℕ) → All P xs → Ranked R xs → Ranked S xs
+  pub ranked_weaker : (P : ℕ → Type 0) (S : ℕ → ℕ → Type 0) → ((x y : ℕ) → P x → P y → R x y → S x y) → (xs : List ℕ) → AllByRecursion P xs → Ranked R xs → Ranked S xs
   ranked_weaker P S weaker [] a h = tt
   ranked_weaker P S weaker (x ∷ xs) a h =
       (all_from_in (S x) xs (λ y m. weaker x y a.0 (all_in P xs y a.1 m) (all_in (R x) xs y h.0 m)), ranked_weaker P S weaker xs a.1 h.1)

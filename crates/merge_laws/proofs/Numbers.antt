@@ -1,6 +1,6 @@
 -- The visits of a sound function have the numbers 1 to n.
 use Rattle.std.proofs.Common.{◌≡◌, ℕ, zero, suc, ◌+◌, ◌<◌, ◌≤◌, true, List, [], ◌∷◌, ◌++◌, map, length, sym, refl, ap, ◌∙◌, subst, inl, inr, arith}
-use Rattle.std.specs.List.{range_with_len, AllByRecursion as All}
+use Rattle.std.specs.List.{range_with_len, AllByRecursion}
 use Rattle.std.proofs.lemmas.List.FromFn.{length-range_with_len}
 use Rattle.std.proofs.ByRecursion.{All-weaker}
 use Rattle.std.proofs.lemmas.Bool.{cases_eq}
@@ -50,7 +50,7 @@ visited m t (v ∷ vs) follows low high = elim (cases_eq t (m + 1)) [
 ]
 
 -- what a visit of the list touches is touched in the list
-pub all_touched : (vs : List Visit) → All (λ v. (p : ℕ) → In p v.touched → Any (λ w. (w.number ≡ v.number) × In p w.touched) vs) vs
+pub all_touched : (vs : List Visit) → AllByRecursion (λ v. (p : ℕ) → In p v.touched → Any (λ w. (w.number ≡ v.number) × In p w.touched) vs) vs
 all_touched [] = tt
 all_touched (v ∷ vs) = (
   (λ p h. inl (refl, h)),
@@ -60,7 +60,7 @@ all_touched (v ∷ vs) = (
 )
 
 -- where all that visits touch contains their numbers, so does each
-pub touched_contains : (rows : Rows) (p t : ℕ) (vs : List Visit) → All (λ v. All (λ q. contains (scope_range rows.scopes q) v.number ≡ true) v.touched) vs
+pub touched_contains : (rows : Rows) (p t : ℕ) (vs : List Visit) → AllByRecursion (λ v. AllByRecursion (λ q. contains (scope_range rows.scopes q) v.number ≡ true) v.touched) vs
     → Any (λ v. (v.number ≡ t) × In p v.touched) vs → contains (scope_range rows.scopes p) t ≡ true
 touched_contains rows p t [] a h = absurd h
 touched_contains rows p t (v ∷ vs) a h = elim h [

@@ -1,6 +1,6 @@
 -- In a sound function a named scope that is not empty lies within the numbers 1 to n + 1.
 use Rattle.std.proofs.Common.{◌≡◌, ℕ, ◌+◌, ◌<◌, ◌≤◌, true, ◌&&◌, eqb, leb, List, [], ◌∷◌, Some, None, refl, inl, inr, arith}
-use Rattle.std.specs.List.{AllByRecursion as All, slice_get}
+use Rattle.std.specs.List.{AllByRecursion, slice_get}
 use Rattle.std.proofs.ByRecursion.{All-map}
 use Rattle.std.proofs.lemmas.Bool.{cases_Bool, or_cases, and_parts, eqb-true, leb-true}
 use Rattle.react_compiler_hir.specs.declared.rows.MutableRange.{MutableRange}
@@ -40,16 +40,16 @@ module _ (n : ℕ) (ss : List ScopeRow) (ds : List IdentifierRow) where
     | Some s ↦ λ is. rw is (rw (row, scope, is) at sound)
   ]) refl
 
-  fine_row : (i : ℕ) (ps : List ℕ) → names_sound n ss ds i ≡ true → All Fine ps → All Fine (and_then (identifier_scope ds i) ps)
-  fine_row i ps sound a = (elim (slice_get ds i) as (λ o. slice_get ds i ≡ o → All Fine (and_then (identifier_scope ds i) ps)) [
+  fine_row : (i : ℕ) (ps : List ℕ) → names_sound n ss ds i ≡ true → AllByRecursion Fine ps → AllByRecursion Fine (and_then (identifier_scope ds i) ps)
+  fine_row i ps sound a = (elim (slice_get ds i) as (λ o. slice_get ds i ≡ o → AllByRecursion Fine (and_then (identifier_scope ds i) ps)) [
     | None ↦ λ row. rw row a
-    | Some d ↦ λ row. rw row ((elim (scope_of d) as (λ o. scope_of d ≡ o → All Fine (and_then (scope_of d) ps)) [
+    | Some d ↦ λ row. rw row ((elim (scope_of d) as (λ o. scope_of d ≡ o → AllByRecursion Fine (and_then (scope_of d) ps)) [
       | None ↦ λ scope. rw scope a
       | Some p ↦ λ scope. rw scope (fine_scope i p d row scope sound, a)
     ]) refl)
   ]) refl
 
-  fine_scopes : (is : List ℕ) → All (λ i. names_sound n ss ds i ≡ true) is → All Fine (scopes_of ds is)
+  fine_scopes : (is : List ℕ) → AllByRecursion (λ i. names_sound n ss ds i ≡ true) is → AllByRecursion Fine (scopes_of ds is)
   fine_scopes [] a = tt
   fine_scopes (i ∷ is) a = fine_row i (scopes_of ds is) a.0 (fine_scopes is a.1)
 
@@ -77,6 +77,6 @@ pub named_within : (f : HirFunction) (rows : Rows) (n : ℕ) → Sound f rows.sc
 named_within f rows n sound p named filled =
     let ss = rows.scopes in
     let ds = rows.identifiers in
-    let sounds : All (λ i. names_sound n ss ds i ≡ true) (mentioned f) = All-map (λ i. names_sound n ss ds i ≡ true) (λ m. m.identifier) (mentions f) sound.named_sound in
+    let sounds : AllByRecursion (λ i. names_sound n ss ds i ≡ true) (mentioned f) = All-map (λ i. names_sound n ss ds i ≡ true) (λ m. m.identifier) (mentions f) sound.named_sound in
     let fine = fine_scopes n ss ds (mentioned f) sounds in
     range_within n (scope_range ss p) (all_in (λ q. range_sound n (scope_range ss q) ≡ true) (scopes_of ds (mentioned f)) p fine (once_in [] (scopes_of ds (mentioned f)) p named)) filled

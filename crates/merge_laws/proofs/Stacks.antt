@@ -1,6 +1,6 @@
 -- Which scopes stand on the stack of a replay, and in which order.
 use Rattle.std.proofs.Common.{◌≡◌, ℕ, ◌+◌, ◌<◌, ◌≤◌, ◌⊎◌, List, [], ◌∷◌, ◌++◌, sym, ap, ◌∙◌, inl, inr, arith}
-use Rattle.std.specs.List.{AllByRecursion as All}
+use Rattle.std.specs.List.{AllByRecursion}
 use Rattle.std.proofs.lemmas.Bool.{cases_eq, cases_lt}
 use Rattle.disjoint_set.specs.Classes.{In}
 use Rattle.merge_rules.specs.Replay.{Timetable, without, closed_stack, stack_after}
@@ -35,7 +35,7 @@ pub record Closing (times : Timetable) (start : ℕ → ℕ) (Lives : ℕ → Ty
   pub going : (p : ℕ) → In p stack → (t < times.ending p) ⊎ ((times.ending p ≡ t) × In p cs)
   pub all : (p : ℕ) → Lives p → start p < t → t < times.ending p → In p stack
   pub ranked : Ranked (Over start times.ending) stack
-  pub closers : All (λ p. Lives p × (times.ending p ≡ t)) cs
+  pub closers : AllByRecursion (λ p. Lives p × (times.ending p ≡ t)) cs
   pub closers_ranked : Ranked (λ p q. start q ≤ start p) cs
 
 module _ (times : Timetable) (start : ℕ → ℕ) (Lives : ℕ → Type 0) (course : Course times start Lives) where

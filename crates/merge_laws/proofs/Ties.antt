@@ -1,6 +1,6 @@
 -- What a replay joins is linked: in every list that it joins, each scope has a link to the first.
 use Rattle.std.proofs.Common.{◌≡◌, ℕ, ◌+◌, ◌<◌, ◌≤◌, eqb, List, [], ◌∷◌, ◌++◌, sym, refl, ap, ◌∙◌, subst, inl, inr, arith}
-use Rattle.std.specs.List.{AllByRecursion as All}
+use Rattle.std.specs.List.{AllByRecursion}
 use Rattle.std.proofs.ByRecursion.{All-append}
 use Rattle.std.proofs.lemmas.Bool.{cases_Bool, eqb-true}
 use Rattle.disjoint_set.specs.Classes.{In}
@@ -17,7 +17,7 @@ Follows m (v ∷ vs) = (v.number ≡ m + 1) × Follows (m + 1) vs
 -- each has a link to the first
 abbrev pub Tied : (ℕ → ℕ → Type 0) → List ℕ → Type 0
 Tied Link [] = Unit {0}
-Tied Link (x ∷ xs) = All (Link x) xs
+Tied Link (x ∷ xs) = AllByRecursion (Link x) xs
 
 -- what makes a link between live scopes
 pub record Linking (times : Timetable) (start : ℕ → ℕ) (Lives : ℕ → Type 0) (Touched : ℕ → ℕ → Type 0) (Link : ℕ → ℕ → Type 0) : Type 0 where
@@ -51,12 +51,12 @@ module _ (times : Timetable) (start : ℕ → ℕ) (Lives : ℕ → Type 0) (cou
         ])
       ]
 
-  closing_tied : (t : ℕ) (stack cs : List ℕ) → Closing times start Lives t stack cs → All (Tied Link) (closing_joins stack cs)
+  closing_tied : (t : ℕ) (stack cs : List ℕ) → Closing times start Lives t stack cs → AllByRecursion (Tied Link) (closing_joins stack cs)
   closing_tied t stack [] s = tt
   closing_tied t stack (c ∷ cs) s =
       (all_from_in (Link c) (above c stack) (λ y h. closing_link t c y stack cs s h), closing_tied t (without c stack) cs (closing_next times start Lives course t c stack cs s))
 
-  opening_tied : (t : ℕ) (ps : List ℕ) → All (λ p. Lives p × (start p ≡ t)) ps → All (Tied Link) (opening_joins times.ending ps)
+  opening_tied : (t : ℕ) (ps : List ℕ) → AllByRecursion (λ p. Lives p × (start p ≡ t)) ps → AllByRecursion (Tied Link) (opening_joins times.ending ps)
   opening_tied t [] a = tt
   opening_tied t (p ∷ []) a = tt
   opening_tied t (p ∷ (q ∷ qs)) a =
@@ -66,7 +66,7 @@ module _ (times : Timetable) (start : ℕ → ℕ) (Lives : ℕ → Type 0) (cou
         | inr n ↦ rw n rest
       ]
 
-  touching_tied : (t : ℕ) (stack ps : List ℕ) → Standing times start Lives t stack → ((p : ℕ) → In p ps → Touched p t) → All (Tied Link) (touching_joins stack ps)
+  touching_tied : (t : ℕ) (stack ps : List ℕ) → Standing times start Lives t stack → ((p : ℕ) → In p ps → Touched p t) → AllByRecursion (Tied Link) (touching_joins stack ps)
   touching_tied t stack [] s touched = tt
   touching_tied t stack (p ∷ ps) s touched = (
     all_from_in (Link p) (above p stack) (λ y h. (
@@ -75,7 +75,7 @@ module _ (times : Timetable) (start : ℕ → ℕ) (Lives : ℕ → Type 0) (cou
     touching_tied t stack ps s (λ q m. touched q (inr m)),
   )
 
-  joins_tied : (m : ℕ) (stack : List ℕ) (v : Visit) → v.number ≡ m + 1 → Standing times start Lives m stack → ((p : ℕ) → In p v.touched → Touched p v.number) → All (Tied Link) (joins_at times stack v)
+  joins_tied : (m : ℕ) (stack : List ℕ) (v : Visit) → v.number ≡ m + 1 → Standing times start Lives m stack → ((p : ℕ) → In p v.touched → Touched p v.number) → AllByRecursion (Tied Link) (joins_at times stack v)
   joins_tied m stack v next s touched =
       let t = v.number in
       let closed = closing_joins stack (times.closing t) in
@@ -87,7 +87,7 @@ module _ (times : Timetable) (start : ℕ → ℕ) (Lives : ℕ → Type 0) (cou
       (touching_tied t (stack_after times stack t) v.touched (standing_next times start Lives course m t stack next s) touched))
 
   pub replayed_tied : (m : ℕ) (s : Stage) (vs : List Visit) → Follows m vs → Standing times start Lives m s.stack
-      → All (λ v. (p : ℕ) → In p v.touched → Touched p v.number) vs → All (Tied Link) s.joins → All (Tied Link) (replayed times s vs).joins
+      → AllByRecursion (λ v. (p : ℕ) → In p v.touched → Touched p v.number) vs → AllByRecursion (Tied Link) s.joins → AllByRecursion (Tied Link) (replayed times s vs).joins
   replayed_tied m s [] follows standing touched tied = tied
   replayed_tied m s (v ∷ vs) follows standing touched tied =
       replayed_tied (m + 1) (stepped times s v) vs follows.1

@@ -1,6 +1,6 @@
 -- What the classes of a merge are, and what it leaves to named roots.
 use Rattle.std.specs.Prelude.{◌≡◌, ℕ, ◌<◌, length, Ok, slice_index}
-use Rattle.std.specs.List.{AllByRecursion as All}
+use Rattle.std.specs.List.{AllByRecursion}
 use Rattle.react_compiler_hir.specs.Function.{HirFunction}
 use Rattle.rules.specs.Rows.{Rows, scope_range}
 use Rattle.function_tests.specs.declared.memory.Memory.TheVariants.{Merge}
@@ -28,6 +28,6 @@ NamedRootsNeverCross =
 -- the examples pass the tests and have the numbers 1 to 10, so they are sound
 abbrev pub ExamplesPass : Type 0
 ExamplesPass =
-    All (λ e.
+    AllByRecursion (λ e.
     function_tested 2 (case_function e.given) (case_rows e.given).scopes (case_rows e.given).identifiers (Merge 32 3 3 3) ≡ Ok 10)
     examples

@@ -1,18 +1,18 @@
 -- Joins send scopes to scopes that are joined, and a root is its own root.
 use Rattle.std.proofs.Common.{◌≡◌, ℕ, cond, List, [], ◌∷◌, map, refl, ap, ◌∙◌, inl, inr}
-use Rattle.std.specs.List.{AllByRecursion as All}
+use Rattle.std.specs.List.{AllByRecursion}
 use Rattle.std.proofs.lemmas.Bool.{cases_Bool, eq-eqb}
 use Rattle.disjoint_set.specs.Classes.{among, sent, sent_all}
 
 -- what holds of all that is joined, and of a scope, holds of its root
-sent_keeps : (P : ℕ → Type 0) (c : ℕ → ℕ) → ((j : ℕ) → P j → P (c j)) → (xs : List ℕ) → All P xs → (j : ℕ) → P j → P (sent c xs j)
+sent_keeps : (P : ℕ → Type 0) (c : ℕ → ℕ) → ((j : ℕ) → P j → P (c j)) → (xs : List ℕ) → AllByRecursion P xs → (j : ℕ) → P j → P (sent c xs j)
 sent_keeps P c keeps [] all j h = keeps j h
 sent_keeps P c keeps (x ∷ xs) all j h = elim (cases_Bool (among (c j) (map c (x ∷ xs)))) [
   | inl t ↦ rw t (keeps x all.0)
   | inr t ↦ rw t (keeps j h)
 ]
 
-pub sent_all_keeps : (P : ℕ → Type 0) (c : ℕ → ℕ) → ((j : ℕ) → P j → P (c j)) → (xss : List (List ℕ)) → All (All P) xss → (j : ℕ) → P j → P (sent_all c xss j)
+pub sent_all_keeps : (P : ℕ → Type 0) (c : ℕ → ℕ) → ((j : ℕ) → P j → P (c j)) → (xss : List (List ℕ)) → AllByRecursion (AllByRecursion P) xss → (j : ℕ) → P j → P (sent_all c xss j)
 sent_all_keeps P c keeps [] all j h = keeps j h
 sent_all_keeps P c keeps (xs ∷ xss) all j h = sent_all_keeps P (sent c xs) (sent_keeps P c keeps xs all.0) xss all.1 j h
 

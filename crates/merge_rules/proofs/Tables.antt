@@ -1,6 +1,6 @@
 -- All that is joined stands in the table of scopes: it has a range that is not empty.
 use Rattle.std.proofs.Common.{◌≡◌, ℕ, ◌+◌, ◌<◌, Bool, true, eqb, ltb, leb, List, [], ◌∷◌, map, length, Some, None, filter, Option, refl, inl, inr, arith}
-use Rattle.std.specs.List.{AllByRecursion as All, slice_get}
+use Rattle.std.specs.List.{AllByRecursion, slice_get}
 use Rattle.std.proofs.ByRecursion.{All-append, All-map, all_kept_by, All-weaker}
 use Rattle.std.proofs.lemmas.Option.{slice_get_past}
 use Rattle.std.proofs.lemmas.Bool.{cases_Bool, cases_lt, and_parts, eqb-false, leb-true, ltb-true}
@@ -35,18 +35,18 @@ containing_in_table ss p t e =
     filled_in_table ss p (λ z. omega arith)
 
 module _ (P : ScopeEntry → Type 0) (lt : ScopeEntry → ScopeEntry → Bool) where
-  all_insert : (x : ScopeEntry) (ys : List ScopeEntry) → P x → All P ys → All P (insert lt x ys)
+  all_insert : (x : ScopeEntry) (ys : List ScopeEntry) → P x → AllByRecursion P ys → AllByRecursion P (insert lt x ys)
   all_insert x [] h g = (h, tt)
   all_insert x (y ∷ ys) h g = elim (cases_Bool (before_all lt x (y ∷ ys))) [
     | inl t ↦ rw t (h, g)
     | inr t ↦ rw t (g.0, all_insert x ys h g.1)
   ]
 
-  pub all_insert_all : (xs ys : List ScopeEntry) → All P xs → All P ys → All P (insert_all lt xs ys)
+  pub all_insert_all : (xs ys : List ScopeEntry) → AllByRecursion P xs → AllByRecursion P ys → AllByRecursion P (insert_all lt xs ys)
   all_insert_all [] ys h g = g
   all_insert_all (x ∷ xs) ys h g = all_insert_all xs (insert lt x ys) h.1 (all_insert x ys h.0 g)
 
-entries_in_table : (ss : List ScopeRow) (k : ℕ) (ps : List ℕ) → All (λ e. e.scope < length ss) (entries_from ss k ps)
+entries_in_table : (ss : List ScopeRow) (k : ℕ) (ps : List ℕ) → AllByRecursion (λ e. e.scope < length ss) (entries_from ss k ps)
 entries_in_table ss k [] = tt
 entries_in_table ss k (p ∷ ps) = elim (cases_Bool (is_empty (scope_range ss p))) [
   | inl t ↦ rw t (entries_in_table ss k ps)
@@ -58,17 +58,17 @@ entries_in_table ss k (p ∷ ps) = elim (cases_Bool (is_empty (scope_range ss p)
 abbrev Holding : List ScopeRow → ℕ → ℕ → Type 0
 Holding ss t p = contains (scope_range ss p) t ≡ true
 
-touched_scope : (ss : List ScopeRow) (t : ℕ) (o : Option ℕ) (ps : List ℕ) → scope_contains ss t o ≡ true → All (Holding ss t) ps → All (Holding ss t) (and_then o ps)
+touched_scope : (ss : List ScopeRow) (t : ℕ) (o : Option ℕ) (ps : List ℕ) → scope_contains ss t o ≡ true → AllByRecursion (Holding ss t) ps → AllByRecursion (Holding ss t) (and_then o ps)
 touched_scope ss t None ps e h = h
 touched_scope ss t (Some p) ps e h = (e, h)
 
-touched_row : (ss : List ScopeRow) (ds : List IdentifierRow) (t i : ℕ) (ps : List ℕ) → row_touches ss t (slice_get ds i) ≡ true → All (Holding ss t) ps → All (Holding ss t) (and_then (identifier_scope ds i) ps)
-touched_row ss ds t i ps e h = (elim (slice_get ds i) as (λ o. slice_get ds i ≡ o → All (Holding ss t) (and_then (identifier_scope ds i) ps)) [
+touched_row : (ss : List ScopeRow) (ds : List IdentifierRow) (t i : ℕ) (ps : List ℕ) → row_touches ss t (slice_get ds i) ≡ true → AllByRecursion (Holding ss t) ps → AllByRecursion (Holding ss t) (and_then (identifier_scope ds i) ps)
+touched_row ss ds t i ps e h = (elim (slice_get ds i) as (λ o. slice_get ds i ≡ o → AllByRecursion (Holding ss t) (and_then (identifier_scope ds i) ps)) [
   | None ↦ λ is. rw is h
   | Some d ↦ λ is. rw is (touched_scope ss t (scope_of d) ps (and_parts (scope_contains ss t (scope_of d)) (contains d.mutable_range t) (rw is at e)).0 h)
 ]) refl
 
-touched_holds : (rows : Rows) (t : ℕ) (is : List ℕ) → All (Holding rows.scopes t) (visit rows t is).touched
+touched_holds : (rows : Rows) (t : ℕ) (is : List ℕ) → AllByRecursion (Holding rows.scopes t) (visit rows t is).touched
 touched_holds rows t [] = tt
 touched_holds rows t (i ∷ is) = elim (cases_Bool (touches rows t i)) [
   | inl e ↦ rw e (touched_row rows.scopes rows.identifiers t i (visit rows t is).touched e (touched_holds rows t is))
@@ -77,13 +77,13 @@ touched_holds rows t (i ∷ is) = elim (cases_Bool (touches rows t i)) [
 
 -- all that a visit touches contains its number
 abbrev pub Held : Rows → Visit → Type 0
-Held rows v = All (λ p. contains (scope_range rows.scopes p) v.number ≡ true) v.touched
+Held rows v = AllByRecursion (λ p. contains (scope_range rows.scopes p) v.number ≡ true) v.touched
 
-run_held : (f : HirFunction) (rows : Rows) (is : List InstructionRow) → All (Held rows) (map (instruction_visit f.words rows) is)
+run_held : (f : HirFunction) (rows : Rows) (is : List InstructionRow) → AllByRecursion (Held rows) (map (instruction_visit f.words rows) is)
 run_held f rows [] = tt
 run_held f rows (r ∷ rs) = (touched_holds rows r.number (reached f.words rows.identifiers r), run_held f rows rs)
 
-pub visits_held : (f : HirFunction) (rows : Rows) (bs : List BlockRow) → All (Held rows) (visits_of f rows bs)
+pub visits_held : (f : HirFunction) (rows : Rows) (bs : List BlockRow) → AllByRecursion (Held rows) (visits_of f rows bs)
 visits_held f rows [] = tt
 visits_held f rows (b ∷ bs) =
     let run = map (instruction_visit f.words rows) (instructions_of f.instructions b) in
@@ -92,13 +92,13 @@ visits_held f rows (b ∷ bs) =
     (All-append (Held rows) run (last ∷ []) (run_held f rows (instructions_of f.instructions b)) (touched_holds rows b.terminal_number (terminal_operands f.words b), tt))
     (visits_held f rows bs)
 
-visits_in_table : (f : HirFunction) (rows : Rows) → All (λ v. All (λ p. p < length rows.scopes) v.touched) (visits f rows)
+visits_in_table : (f : HirFunction) (rows : Rows) → AllByRecursion (λ v. AllByRecursion (λ p. p < length rows.scopes) v.touched) (visits f rows)
 visits_in_table f rows =
-    let known : (v : Visit) → Held rows v → All (λ p. p < length rows.scopes) v.touched =
+    let known : (v : Visit) → Held rows v → AllByRecursion (λ p. p < length rows.scopes) v.touched =
     λ v. All-weaker (λ p. contains (scope_range rows.scopes p) v.number ≡ true) (λ p. p < length rows.scopes) (λ p. containing_in_table rows.scopes p v.number) v.touched in
-    All-weaker (Held rows) (λ v. All (λ p. p < length rows.scopes) v.touched) known (visits f rows) (visits_held f rows f.blocks)
+    All-weaker (Held rows) (λ v. AllByRecursion (λ p. p < length rows.scopes) v.touched) known (visits f rows) (visits_held f rows f.blocks)
 
-pub joins_in_table : (f : HirFunction) (rows : Rows) → All (All (λ p. p < length rows.scopes)) (joins_of f rows)
+pub joins_in_table : (f : HirFunction) (rows : Rows) → AllByRecursion (AllByRecursion (λ p. p < length rows.scopes)) (joins_of f rows)
 joins_in_table f rows =
     let P : ℕ → Type 0 = λ p. p < length rows.scopes in
     let Q : ScopeEntry → Type 0 = λ e. e.scope < length rows.scopes in

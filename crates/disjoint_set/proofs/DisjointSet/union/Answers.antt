@@ -1,5 +1,5 @@
 use Rattle.std.proofs.Common.{◌≡◌, ◌-◌, ◌<◌, ◌∷◌, length, get_or, take, drop, sym, refl, ap, ◌∙◌, subst, arith, rules}
-use Rattle.std.specs.List.{AllByRecursion as All}
+use Rattle.std.specs.List.{AllByRecursion}
 use Rattle.std.proofs.ByRecursion.{All-get_or}
 use Rattle.std.proofs.lemmas.Slice.{first_rest}
 use Rattle.disjoint_set.specs.Forest.{Forest, root}
@@ -23,7 +23,7 @@ pub attach-requires : goal.attach-requires
 attach-requires c =
     let items = c.args.items.now in
     let inv = c.loop-item.invariant.0 in
-    let split : All (λ x. x < length c.args.self.now.parents.now) (get_or items 0 0 ∷ take (length items - 1) (drop 1 items)) = rw (first_rest items 0 (omega arith)) at c.requires.within in
+    let split : AllByRecursion (λ x. x < length c.args.self.now.parents.now) (get_or items 0 0 ∷ take (length items - 1) (drop 1 items)) = rw (first_rest items 0 (omega arith)) at c.requires.within in
     let h = All-get_or _ (take (length items - 1) (drop 1 items)) c.loop-item.item-index 0 c.loop-item-test.true split.1 in
     record { forest = inv.forest; within = omega (arith, h, inv.long, c.find-top.ensures.len); room = inv.within; own = inv.own }
 
