@@ -5,6 +5,7 @@
 use anyhow::anyhow;
 use listing::record_of;
 use std::io::Write;
+use std::process::ExitCode;
 use std::{env, fs, io};
 
 fn read_listing(rt: &HostRuntime) -> anyhow::Result<String> {
@@ -26,10 +27,12 @@ fn run(rt: &HostRuntime) -> anyhow::Result<()> {
     Ok(())
 }
 
-fn main(rt: HostRuntime) -> anyhow::Result<()> {
-    let result = run(&rt);
-    if let Err(e) = &result {
-        let _ = eprintln!(rt; "make_record: {e}");
+fn main(rt: HostRuntime) -> ExitCode {
+    match run(&rt) {
+        Ok(()) => ExitCode::SUCCESS,
+        Err(e) => {
+            let _ = eprintln!(rt; "make_record: {e}");
+            ExitCode::FAILURE
+        }
     }
-    result
 }

@@ -1,15 +1,15 @@
 // Prints the records that it is given; `scopes --help` says how.
 #![tactic(auto)]
 
-use anyhow::anyhow;
 use scopes_cli::report;
 use std::env;
+use std::process::ExitCode;
 
-fn main(rt: HostRuntime) -> anyhow::Result<()> {
+fn main(rt: HostRuntime) -> anyhow::Result<ExitCode> {
     let words: Vec<String> = env::args(&rt)?.skip(1).collect(rt.alloc())?;
-    if report(&rt, &words)? {
-        Ok(())
+    Ok(if report(&rt, &words)? {
+        ExitCode::SUCCESS
     } else {
-        Err(anyhow!("a file was refused"))
-    }
+        ExitCode::FAILURE
+    })
 }
