@@ -1,3 +1,4 @@
 pub mod Rows
+pub mod RowWords
 pub mod Numbers
 pub mod Function

@@ -1,13 +1,39 @@
 // The kinds of blocks, terminals and instructions. A kind's number is its place among the variants
 // of the Rust enum of that name, from 0.
-ghost use Rattle.std.specs.Prelude.{◌≡◌};
+ghost use Rattle.std.specs.Prelude.{◌≡◌, ℕ, List, length, refl};
 ghost use Rattle.std.specs.List.{slice_get};
 ghost use Rattle.react_compiler_hir.specs.Numbers.{block_kinds, terminal_kinds, instruction_kinds};
 
 use crate::tables::row_at;
+use std::fmt::Debug;
+
+// What a row tells by a number.
+pub trait Kind: Copy + Debug + 'static {
+    // The kinds in the order of their numbers.
+    ghost kinds: { List Self };
+
+    // How many kinds there are.
+    const COUNT: u32;
+
+    ghost COUNT: { ℕ };
+
+    // The kinds, each at the place of its number.
+    fn all() -> &'static [Self]
+        ensures { result.now ≡ kinds };
+
+    // The kind with this number, if there is one.
+    fn from_number(number: u32) -> Option<Self>
+        ensures { result ≡ slice_get kinds number }
+    {
+        row_at(Self::all(), number as usize)
+    }
+
+    // All kinds are counted.
+    ghost counted: { COUNT ≡ length kinds };
+}
 
 // What a block is part of.
-#[derive(Clone, Copy, Debug)]
+#[derive(Clone, Copy, Debug, PartialEq, Eq)]
 pub enum BlockKind {
     Block,
     Value,
@@ -24,20 +50,22 @@ const BLOCK_KINDS: [BlockKind; 5] = [
     BlockKind::Catch,
 ];
 
-impl BlockKind {
-    // How many kinds there are.
-    pub const COUNT: u32 = 5;
+impl Kind for BlockKind {
+    ghost kinds = { block_kinds };
 
-    // The kind with this number, if there is one.
-    pub fn from_number(number: u32) -> Option<BlockKind>
-        ensures { result ≡ slice_get block_kinds number }
-    {
-        row_at(&BLOCK_KINDS, number as usize)
+    const COUNT: u32 = 5;
+
+    ghost COUNT = { 5 };
+
+    ghost counted = { refl };
+
+    fn all() -> &'static [BlockKind] {
+        &BLOCK_KINDS
     }
 }
 
 // How a block ends.
-#[derive(Clone, Copy, Debug)]
+#[derive(Clone, Copy, Debug, PartialEq, Eq)]
 pub enum TerminalKind {
     Unreachable,
     Throw,
@@ -86,20 +114,22 @@ const TERMINAL_KINDS: [TerminalKind; 21] = [
     TerminalKind::PrunedScope,
 ];
 
-impl TerminalKind {
-    // How many kinds there are.
-    pub const COUNT: u32 = 21;
+impl Kind for TerminalKind {
+    ghost kinds = { terminal_kinds };
 
-    // The kind with this number, if there is one.
-    pub fn from_number(number: u32) -> Option<TerminalKind>
-        ensures { result ≡ slice_get terminal_kinds number }
-    {
-        row_at(&TERMINAL_KINDS, number as usize)
+    const COUNT: u32 = 21;
+
+    ghost COUNT = { 21 };
+
+    ghost counted = { refl };
+
+    fn all() -> &'static [TerminalKind] {
+        &TERMINAL_KINDS
     }
 }
 
 // What an instruction computes.
-#[derive(Clone, Copy, Debug)]
+#[derive(Clone, Copy, Debug, PartialEq, Eq)]
 pub enum InstructionKind {
     LoadLocal,
     LoadContext,
@@ -190,14 +220,16 @@ const INSTRUCTION_KINDS: [InstructionKind; 42] = [
     InstructionKind::FinishMemoize,
 ];
 
-impl InstructionKind {
-    // How many kinds there are.
-    pub const COUNT: u32 = 42;
+impl Kind for InstructionKind {
+    ghost kinds = { instruction_kinds };
 
-    // The kind with this number, if there is one.
-    pub fn from_number(number: u32) -> Option<InstructionKind>
-        ensures { result ≡ slice_get instruction_kinds number }
-    {
-        row_at(&INSTRUCTION_KINDS, number as usize)
+    const COUNT: u32 = 42;
+
+    ghost COUNT = { 42 };
+
+    ghost counted = { refl };
+
+    fn all() -> &'static [InstructionKind] {
+        &INSTRUCTION_KINDS
     }
 }

@@ -2,11 +2,13 @@
 #![tactic(auto)]
 
 mod kinds;
+mod row_words;
 mod rows;
 mod source;
 mod tables;
 
-pub use kinds::{BlockKind, InstructionKind, TerminalKind};
+pub use kinds::{BlockKind, InstructionKind, Kind, TerminalKind};
+pub use row_words::Row;
 pub use rows::{BlockRow, IdentifierRow, InstructionRow, MutableRange, ScopeRow};
 pub use source::{Source, TableSource};
 pub use tables::row_at;

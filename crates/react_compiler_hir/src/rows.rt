@@ -4,7 +4,7 @@ ghost use Rattle.react_compiler_hir.specs.Rows.{scope_of, primitive_is};
 
 // A range of evaluation orders, from `start` up to but not `end`. Ranges with one id are one
 // logical range.
-#[derive(Clone, Copy)]
+#[derive(Clone, Copy, Debug, PartialEq, Eq)]
 pub struct MutableRange {
     pub id: u32,
     pub start: u32,
@@ -12,14 +12,14 @@ pub struct MutableRange {
 }
 
 // A reactive scope.
-#[derive(Clone, Copy)]
+#[derive(Clone, Copy, Debug, PartialEq, Eq)]
 pub struct ScopeRow {
     pub range: MutableRange,
 }
 
 // An identifier: the range in which it is mutable, the position of its scope, and whether its
 // type is primitive.
-#[derive(Clone, Copy)]
+#[derive(Clone, Copy, Debug, PartialEq, Eq)]
 pub struct IdentifierRow {
     pub mutable_range: MutableRange,
     pub scope: u32,
@@ -51,7 +51,7 @@ impl IdentifierRow {
 
 // A block: its run of instructions, its terminal, and the list of the terminal's operands and
 // then its successors.
-#[derive(Clone, Copy)]
+#[derive(Clone, Copy, Debug, PartialEq, Eq)]
 pub struct BlockRow {
     pub kind: u32,
     pub first_instruction: u32,
@@ -64,7 +64,7 @@ pub struct BlockRow {
 }
 
 // An instruction: its evaluation order, and the list of its targets and then its reads.
-#[derive(Clone, Copy)]
+#[derive(Clone, Copy, Debug, PartialEq, Eq)]
 pub struct InstructionRow {
     pub number: u32,
     pub kind: u32,

@@ -1,47 +1,43 @@
 // A function as the passes see it: three lists that a source tells.
-ghost use Rattle.std.specs.Prelude.{◌≡◌, ℕ, List, length};
+ghost use Rattle.std.specs.Prelude.{◌≡◌, ℕ, length};
 ghost use Rattle.std.specs.List.{slice_get};
-ghost use Rattle.react_compiler_hir.specs.declared.rows.BlockRow.{BlockRow};
-ghost use Rattle.react_compiler_hir.specs.declared.rows.InstructionRow.{InstructionRow};
+ghost use Rattle.react_compiler_hir.specs.Function.{HirFunction, hir_function};
 
 use crate::rows::{BlockRow, InstructionRow};
 use crate::tables::row_at;
 
-// What a source means are its block rows, its instruction rows and its words. An answer at a
-// position is the list's element there, and is absent exactly from the list's length on.
+// What a source means is a function: its block rows, its instruction rows and its words. An answer
+// at a position is the list's element there, and is absent exactly from the list's length on.
 pub trait Source {
     // The number that tells this type of source from the others; function faults repeat it.
     const KIND: u32;
 
-    // The same number, for contracts.
+    // The same number, for contracts: the check cannot tie a ghost constant to `KIND` in an impl
+    // for a type that borrows, as both sources do.
     ghost tag: { ℕ };
 
-    ghost blocks: { Self → List BlockRow };
-
-    ghost instructions: { Self → List InstructionRow };
-
-    ghost words: { Self → List ℕ };
+    ghost function: { Self → HirFunction };
 
     fn source_kind(&self) -> u32
         ensures { result ≡ tag };
 
     fn block_count(&self) -> usize
-        ensures { result ≡ length (blocks self.now) };
+        ensures { result ≡ length (function self.now).blocks };
 
     fn instruction_count(&self) -> usize
-        ensures { result ≡ length (instructions self.now) };
+        ensures { result ≡ length (function self.now).instructions };
 
     fn word_count(&self) -> usize
-        ensures { result ≡ length (words self.now) };
+        ensures { result ≡ length (function self.now).words };
 
     fn block(&self, position: usize) -> Option<BlockRow>
-        ensures { result ≡ slice_get (blocks self.now) position };
+        ensures { result ≡ slice_get (function self.now).blocks position };
 
     fn instruction(&self, position: usize) -> Option<InstructionRow>
-        ensures { result ≡ slice_get (instructions self.now) position };
+        ensures { result ≡ slice_get (function self.now).instructions position };
 
     fn word(&self, position: usize) -> Option<u32>
-        ensures { result ≡ slice_get (words self.now) position };
+        ensures { result ≡ slice_get (function self.now).words position };
 }
 
 // A function in three tables of the host's, borrowed.
@@ -57,11 +53,7 @@ impl Source for TableSource<'_> {
 
     ghost tag = { 2 };
 
-    ghost blocks = { λ s. s.blocks.now };
-
-    ghost instructions = { λ s. s.instructions.now };
-
-    ghost words = { λ s. s.words.now };
+    ghost function = { λ s. hir_function s.blocks.now s.instructions.now s.words.now };
 
     fn source_kind(&self) -> u32 {
         Self::KIND
