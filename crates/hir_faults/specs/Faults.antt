@@ -58,18 +58,22 @@ fault_source (any.Record f) = None
 fault_source (any.Function f) = Some (function_source f)
 fault_source (any.Pass f) = None
 
--- the envelopes in which the layers give their faults: a record fault has no place
+-- a fault in the envelope of its layer
+abbrev pub enveloped : {F : Type 0} → Layer → Option Place → F → Envelope F
+enveloped l p f = record { layer = l; place = p; fault = f }
+
+-- a record fault has no place
 abbrev pub record_faulted : RecordFault → Envelope RecordFault
-record_faulted f = record { layer = layer.Record; place = None; fault = f }
+record_faulted f = enveloped layer.Record None f
 
 abbrev pub function_faulted : Option Place → FunctionFault → Envelope FunctionFault
-function_faulted p f = record { layer = layer.Function; place = p; fault = f }
+function_faulted p f = enveloped layer.Function p f
 
 abbrev pub pass_faulted : Option Place → PassFault → Envelope PassFault
-pass_faulted p f = record { layer = layer.Pass; place = p; fault = f }
+pass_faulted p f = enveloped layer.Pass p f
 
 -- the same envelope around the fault as one of any layer
-abbrev around : {E : Type 0} → (E → Fault) → Envelope E → Envelope Fault
+abbrev pub around : {F : Type 0} → (F → Fault) → Envelope F → Envelope Fault
 around f e = record { layer = e.layer; place = e.place; fault = f e.fault }
 
 abbrev pub of_record : Envelope RecordFault → Envelope Fault

@@ -1,9 +1,11 @@
 // The numbered faults, and the envelope that carries one up through the layers.
-ghost use Rattle.std.specs.Prelude.{◌≡◌};
-ghost use Rattle.hir_faults.specs.Faults.{record_number, function_number, pass_number, fault_number, layer_number, fault_source, of_record, of_function, of_pass};
+ghost use Rattle.std.specs.Prelude.{◌≡◌, ℕ};
+ghost use Rattle.hir_faults.specs.Faults.{record_number, function_number, pass_number, fault_number, layer_number, fault_source, enveloped, around};
+ghost use Rattle.hir_faults.specs.declared.fault.Layer.TheVariants as layer;
+ghost use Rattle.hir_faults.specs.declared.fault.Fault.TheVariants as fault;
 
 // The layer that gives a fault.
-#[derive(Clone, Copy)]
+#[derive(Clone, Copy, Debug, PartialEq, Eq)]
 pub enum Layer {
     Record,
     Function,
@@ -11,14 +13,14 @@ pub enum Layer {
 }
 
 // Where in a function a fault was met. A block's terminal comes as one more step behind its instructions.
-#[derive(Clone, Copy)]
+#[derive(Clone, Copy, Debug, PartialEq, Eq)]
 pub struct Place {
     pub block: u32,
     pub step: u32,
 }
 
 // Why bytes are no record.
-#[derive(Clone, Copy)]
+#[derive(Clone, Copy, Debug, PartialEq, Eq)]
 pub enum RecordFault {
     TooShort,
     NoMark,
@@ -28,7 +30,7 @@ pub enum RecordFault {
 }
 
 // Why a function is no input for a pass; each case repeats the kind number of its source.
-#[derive(Clone, Copy)]
+#[derive(Clone, Copy, Debug, PartialEq, Eq)]
 pub enum FunctionFault {
     OverLimit { source: u32 },
     NoBlock { source: u32 },
@@ -39,7 +41,7 @@ pub enum FunctionFault {
 }
 
 // Why a pass, or the loading of rows, could not go on.
-#[derive(Clone, Copy)]
+#[derive(Clone, Copy, Debug, PartialEq, Eq)]
 pub enum PassFault {
     TooLittleMemory,
     SharedFallthrough,
@@ -48,7 +50,7 @@ pub enum PassFault {
 }
 
 // A fault with its layer and its place, if it has one.
-#[derive(Clone, Copy)]
+#[derive(Clone, Copy, Debug, PartialEq, Eq)]
 pub struct Envelope<F> {
     pub layer: Layer,
     pub place: Option<Place>,
@@ -56,45 +58,56 @@ pub struct Envelope<F> {
 }
 
 // A fault of any layer.
-#[derive(Clone, Copy)]
+#[derive(Clone, Copy, Debug, PartialEq, Eq)]
 pub enum Fault {
     Record(RecordFault),
     Function(FunctionFault),
     Pass(PassFault),
 }
 
-impl From<Envelope<RecordFault>> for Envelope<Fault> {
-    ghost from_gives = { λ x y. y ≡ of_record x };
+// The faults of one layer.
+pub trait LayerFault: Copy {
+    ghost use Rattle.hir_faults.specs.declared.fault.Layer.{Layer};
+    ghost use Rattle.hir_faults.specs.declared.fault.Fault.{Fault};
 
-    fn from(e: Envelope<RecordFault>) -> Envelope<Fault> {
+    const LAYER: Layer;
+
+    ghost LAYER: { Layer };
+
+    ghost any: { Self → Fault };
+
+    ghost number: { Self → ℕ };
+
+    // The same fault as one of any layer.
+    fn any(self) -> Fault
+        ensures { result ≡ any self };
+
+    // Its number in the table of faults.
+    fn number(self) -> u32
+        ensures { result ≡ number self };
+}
+
+impl<F: LayerFault> Envelope<F> {
+    // The envelope in which its layer gives the fault.
+    pub fn new(place: Option<Place>, fault: F) -> Envelope<F>
+        ensures { result ≡ enveloped F.LAYER place fault }
+    {
         Envelope {
-            layer: e.layer,
-            place: e.place,
-            fault: Fault::Record(e.fault),
+            layer: F::LAYER,
+            place,
+            fault,
         }
     }
 }
 
-impl From<Envelope<FunctionFault>> for Envelope<Fault> {
-    ghost from_gives = { λ x y. y ≡ of_function x };
+impl<F: LayerFault> From<Envelope<F>> for Envelope<Fault> {
+    ghost from_gives = { λ x y. y ≡ around F.any x };
 
-    fn from(e: Envelope<FunctionFault>) -> Envelope<Fault> {
+    fn from(e: Envelope<F>) -> Envelope<Fault> {
         Envelope {
             layer: e.layer,
             place: e.place,
-            fault: Fault::Function(e.fault),
-        }
-    }
-}
-
-impl From<Envelope<PassFault>> for Envelope<Fault> {
-    ghost from_gives = { λ x y. y ≡ of_pass x };
-
-    fn from(e: Envelope<PassFault>) -> Envelope<Fault> {
-        Envelope {
-            layer: e.layer,
-            place: e.place,
-            fault: Fault::Pass(e.fault),
+            fault: e.fault.any(),
         }
     }
 }
@@ -111,10 +124,20 @@ impl Layer {
     }
 }
 
-impl RecordFault {
-    fn number(self) -> u32
-        ensures { result ≡ record_number self }
-    {
+impl LayerFault for RecordFault {
+    const LAYER: Layer = Layer::Record;
+
+    ghost LAYER = { layer.Record };
+
+    ghost any = { fault.Record };
+
+    ghost number = { record_number };
+
+    fn any(self) -> Fault {
+        Fault::Record(self)
+    }
+
+    fn number(self) -> u32 {
         match self {
             RecordFault::TooShort => 1,
             RecordFault::NoMark => 2,
@@ -125,10 +148,20 @@ impl RecordFault {
     }
 }
 
-impl FunctionFault {
-    fn number(self) -> u32
-        ensures { result ≡ function_number self }
-    {
+impl LayerFault for FunctionFault {
+    const LAYER: Layer = Layer::Function;
+
+    ghost LAYER = { layer.Function };
+
+    ghost any = { fault.Function };
+
+    ghost number = { function_number };
+
+    fn any(self) -> Fault {
+        Fault::Function(self)
+    }
+
+    fn number(self) -> u32 {
         match self {
             FunctionFault::OverLimit { .. } => 4,
             FunctionFault::NoBlock { .. } => 7,
@@ -140,10 +173,20 @@ impl FunctionFault {
     }
 }
 
-impl PassFault {
-    fn number(self) -> u32
-        ensures { result ≡ pass_number self }
-    {
+impl LayerFault for PassFault {
+    const LAYER: Layer = Layer::Pass;
+
+    ghost LAYER = { layer.Pass };
+
+    ghost any = { fault.Pass };
+
+    ghost number = { pass_number };
+
+    fn any(self) -> Fault {
+        Fault::Pass(self)
+    }
+
+    fn number(self) -> u32 {
         match self {
             PassFault::TooLittleMemory => 6,
             PassFault::SharedFallthrough => 12,

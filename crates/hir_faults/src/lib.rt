@@ -2,5 +2,6 @@
 #![tactic(auto)]
 
 mod fault;
+mod meaning;
 
-pub use fault::{Envelope, Fault, FunctionFault, Layer, PassFault, Place, RecordFault};
+pub use fault::{Envelope, Fault, FunctionFault, Layer, LayerFault, PassFault, Place, RecordFault};
