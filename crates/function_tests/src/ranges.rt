@@ -45,7 +45,7 @@ pub fn part_sound<S: Source>(
     scopes: &[ScopeRow],
     identifiers: &[IdentifierRow],
 ) -> bool
-    ensures { result ≡ all_sound last scopes.now identifiers.now (words_of (S.words source.now) part) }
+    ensures { result ≡ all_sound last scopes.now identifiers.now (words_of (S.function source.now).words part) }
 {
     for i in 0..part.count {
         let Some(word) = source.word(part.start as usize + part.skip as usize + i as usize) else {

@@ -1,6 +1,5 @@
 // The second walk: the ranges of the scopes that are named.
 ghost use Rattle.std.specs.Prelude.{◌≡◌, ◌≤◌, length};
-ghost use Rattle.react_compiler_hir.specs.Function.{hir_function};
 ghost use Rattle.visitors.specs.Mentions.{instructions_of};
 ghost use Rattle.function_tests.specs.Ranges.{instruction_sound};
 ghost use Rattle.function_tests.specs.Walks.{instruction_ranged, run_ranged, block_ranged, blocks_ranged};
@@ -20,7 +19,7 @@ fn instruction_sound<S: Source>(
     scopes: &[ScopeRow],
     identifiers: &[IdentifierRow],
 ) -> bool
-    ensures { result ≡ instruction_sound last scopes.now identifiers.now (S.words source.now) row.now }
+    ensures { result ≡ instruction_sound last scopes.now identifiers.now (S.function source.now).words row.now }
 {
     names_sound(row.lvalue, last, scopes, identifiers)
         && part_sound(source, targets(row), last, scopes, identifiers)
@@ -35,7 +34,7 @@ fn reach_run<S: Source>(
     scopes: &[ScopeRow],
     identifiers: &[IdentifierRow],
 ) -> Result<(), Envelope<Fault>>
-    ensures { result ≡ run_ranged S.tag (hir_function (S.blocks source.now) (S.instructions source.now) (S.words source.now)) scopes.now identifiers.now last block (instructions_of (S.instructions source.now) row.now) }
+    ensures { result ≡ run_ranged S.tag (S.function source.now) scopes.now identifiers.now last block (instructions_of (S.function source.now).instructions row.now) }
 {
     for step in 0..row.instruction_count {
         let Some(instruction) = source.instruction(row.first_instruction as usize + step as usize)
@@ -58,7 +57,7 @@ fn reach_block<S: Source>(
     scopes: &[ScopeRow],
     identifiers: &[IdentifierRow],
 ) -> Result<(), Envelope<Fault>>
-    ensures { result ≡ block_ranged S.tag (hir_function (S.blocks source.now) (S.instructions source.now) (S.words source.now)) scopes.now identifiers.now last block tt row.now }
+    ensures { result ≡ block_ranged S.tag (S.function source.now) scopes.now identifiers.now last block tt row.now }
 {
     reach_run(source, row, block, last, scopes, identifiers)?;
     if part_sound(source, operands(row), last, scopes, identifiers) {
@@ -79,8 +78,8 @@ pub fn reach_blocks<S: Source>(
     scopes: &[ScopeRow],
     identifiers: &[IdentifierRow],
 ) -> Result<(), Envelope<Fault>>
-    requires { length (S.blocks source.now) ≤ 1024 }
-    ensures { result ≡ blocks_ranged S.tag (hir_function (S.blocks source.now) (S.instructions source.now) (S.words source.now)) scopes.now identifiers.now last (S.blocks source.now) }
+    requires { length (S.function source.now).blocks ≤ 1024 }
+    ensures { result ≡ blocks_ranged S.tag (S.function source.now) scopes.now identifiers.now last (S.function source.now).blocks }
 {
     for i in 0..source.block_count() {
         let Some(row) = source.block(i) else {

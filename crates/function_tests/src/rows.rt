@@ -1,10 +1,9 @@
 // What a row must be, on its own and beside the tables.
 ghost use Rattle.std.specs.Prelude.{◌≡◌, ◌+◌, nat_le};
-ghost use Rattle.react_compiler_hir.specs.Function.{hir_function};
 ghost use Rattle.visitors.specs.Parts.{words_of};
 ghost use Rattle.function_tests.specs.Rows.{instruction_shaped, terminal_shaped, all_below, instruction_fits, block_fits, instruction_known, block_known};
 
-use react_compiler_hir::{BlockKind, BlockRow, InstructionRow, Source};
+use react_compiler_hir::{BlockKind, BlockRow, InstructionRow, Kind, Source};
 use visitors::{Part, instruction_shape, operands, reads, successors, targets, terminal_shape};
 
 fn instruction_shaped(row: &InstructionRow) -> bool
@@ -42,7 +41,7 @@ fn ends_within(start: u32, first: u32, second: u32, length: usize) -> bool
 }
 
 pub fn instruction_fits<S: Source>(source: &S, row: &InstructionRow) -> bool
-    ensures { result ≡ instruction_fits (hir_function (S.blocks source.now) (S.instructions source.now) (S.words source.now)) row.now }
+    ensures { result ≡ instruction_fits (S.function source.now) row.now }
 {
     instruction_shaped(row)
         && ends_within(
@@ -54,7 +53,7 @@ pub fn instruction_fits<S: Source>(source: &S, row: &InstructionRow) -> bool
 }
 
 pub fn block_fits<S: Source>(source: &S, row: &BlockRow) -> bool
-    ensures { result ≡ block_fits (hir_function (S.blocks source.now) (S.instructions source.now) (S.words source.now)) row.now }
+    ensures { result ≡ block_fits (S.function source.now) row.now }
 {
     row.kind < BlockKind::COUNT
         && terminal_shaped(row)
@@ -75,7 +74,7 @@ pub fn block_fits<S: Source>(source: &S, row: &BlockRow) -> bool
 // Whether every word of a part is a position below the limit. A part that leaves the words ends
 // with them.
 pub fn part_below<S: Source>(source: &S, part: Part, limit: usize) -> bool
-    ensures { result ≡ all_below limit (words_of (S.words source.now) part) }
+    ensures { result ≡ all_below limit (words_of (S.function source.now).words part) }
 {
     for i in 0..part.count {
         let Some(word) = source.word(part.start as usize + part.skip as usize + i as usize) else {
@@ -89,7 +88,7 @@ pub fn part_below<S: Source>(source: &S, part: Part, limit: usize) -> bool
 }
 
 pub fn instruction_known<S: Source>(source: &S, row: &InstructionRow, identifiers: usize) -> bool
-    ensures { result ≡ instruction_known (hir_function (S.blocks source.now) (S.instructions source.now) (S.words source.now)) identifiers row.now }
+    ensures { result ≡ instruction_known (S.function source.now) identifiers row.now }
 {
     (row.lvalue as usize) < identifiers
         && part_below(source, targets(row), identifiers)
@@ -97,7 +96,7 @@ pub fn instruction_known<S: Source>(source: &S, row: &InstructionRow, identifier
 }
 
 pub fn block_known<S: Source>(source: &S, row: &BlockRow, identifiers: usize) -> bool
-    ensures { result ≡ block_known (hir_function (S.blocks source.now) (S.instructions source.now) (S.words source.now)) identifiers row.now }
+    ensures { result ≡ block_known (S.function source.now) identifiers row.now }
 {
     part_below(source, operands(row), identifiers)
         && part_below(source, successors(row), source.block_count())

@@ -1,6 +1,5 @@
 // All the tests before a pass, in their order.
 ghost use Rattle.std.specs.Prelude.{◌≡◌, length};
-ghost use Rattle.react_compiler_hir.specs.Function.{hir_function};
 ghost use Rattle.function_tests.specs.Tests.{within_limits, memory_enough, tables_tested, function_tested};
 
 use crate::memory::Memory;
@@ -22,7 +21,7 @@ const MOST_SCOPES: usize = 1_024;
 const MOST_IDENTIFIERS: usize = 16_384;
 
 fn within_limits<S: Source>(source: &S, scopes: usize, identifiers: usize) -> bool
-    ensures { result ≡ within_limits (hir_function (S.blocks source.now) (S.instructions source.now) (S.words source.now)) scopes identifiers }
+    ensures { result ≡ within_limits (S.function source.now) scopes identifiers }
 {
     source.block_count() <= MOST_BLOCKS
         && source.instruction_count() <= MOST_INSTRUCTIONS
@@ -38,7 +37,7 @@ fn test_tables<S: Source>(
     identifiers: &[IdentifierRow],
     memory: Memory,
 ) -> Result<(), Envelope<Fault>>
-    ensures { result ≡ tables_tested S.tag (hir_function (S.blocks source.now) (S.instructions source.now) (S.words source.now)) scopes.now identifiers.now memory }
+    ensures { result ≡ tables_tested S.tag (S.function source.now) scopes.now identifiers.now memory }
 {
     let kind = source.source_kind();
     if !within_limits(source, scopes.len(), identifiers.len()) {
@@ -63,7 +62,7 @@ pub fn test_function<S: Source>(
     identifiers: &[IdentifierRow],
     memory: Memory,
 ) -> Result<u32, Envelope<Fault>>
-    ensures { result ≡ function_tested S.tag (hir_function (S.blocks source.now) (S.instructions source.now) (S.words source.now)) scopes.now identifiers.now memory }
+    ensures { result ≡ function_tested S.tag (S.function source.now) scopes.now identifiers.now memory }
 {
     test_tables(source, scopes, identifiers, memory)?;
     let last = walk_blocks(source, identifiers.len())?;

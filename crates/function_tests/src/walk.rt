@@ -1,6 +1,5 @@
 // The first walk: rows and numbers.
 ghost use Rattle.std.specs.Prelude.{◌≡◌, ◌≤◌, length};
-ghost use Rattle.react_compiler_hir.specs.Function.{hir_function};
 ghost use Rattle.visitors.specs.Mentions.{instructions_of};
 ghost use Rattle.function_tests.specs.Walks.{number_tested, instruction_tested, block_tested, run_walked, block_walked, blocks_walked};
 
@@ -34,7 +33,7 @@ fn test_instruction<S: Source>(
     walked: u32,
     identifiers: usize,
 ) -> Result<u32, Envelope<Fault>>
-    ensures { result ≡ instruction_tested S.tag (hir_function (S.blocks source.now) (S.instructions source.now) (S.words source.now)) identifiers block step walked row.now }
+    ensures { result ≡ instruction_tested S.tag (S.function source.now) identifiers block step walked row.now }
 {
     let kind = source.source_kind();
     if !instruction_fits(source, row) {
@@ -52,7 +51,7 @@ fn test_block<S: Source>(
     block: u32,
     identifiers: usize,
 ) -> Result<(), Envelope<Fault>>
-    ensures { result ≡ block_tested S.tag (hir_function (S.blocks source.now) (S.instructions source.now) (S.words source.now)) identifiers block row.now }
+    ensures { result ≡ block_tested S.tag (S.function source.now) identifiers block row.now }
 {
     let kind = source.source_kind();
     if !block_fits(source, row) {
@@ -72,7 +71,7 @@ fn walk_run<S: Source>(
     before: u32,
     identifiers: usize,
 ) -> Result<u32, Envelope<Fault>>
-    ensures { result ≡ run_walked S.tag (hir_function (S.blocks source.now) (S.instructions source.now) (S.words source.now)) identifiers block before (instructions_of (S.instructions source.now) row.now) }
+    ensures { result ≡ run_walked S.tag (S.function source.now) identifiers block before (instructions_of (S.function source.now).instructions row.now) }
 {
     let mut walked = before;
     for step in 0..row.instruction_count {
@@ -92,7 +91,7 @@ fn walk_block<S: Source>(
     before: u32,
     identifiers: usize,
 ) -> Result<u32, Envelope<Fault>>
-    ensures { result ≡ block_walked S.tag (hir_function (S.blocks source.now) (S.instructions source.now) (S.words source.now)) identifiers block before row.now }
+    ensures { result ≡ block_walked S.tag (S.function source.now) identifiers block before row.now }
 {
     test_block(source, row, block, identifiers)?;
     let walked = walk_run(source, row, block, before, identifiers)?;
@@ -107,8 +106,8 @@ fn walk_block<S: Source>(
 
 // Walks all blocks, and answers how many numbers there are.
 pub fn walk_blocks<S: Source>(source: &S, identifiers: usize) -> Result<u32, Envelope<Fault>>
-    requires { length (S.blocks source.now) ≤ 1024 }
-    ensures { result ≡ blocks_walked S.tag (hir_function (S.blocks source.now) (S.instructions source.now) (S.words source.now)) identifiers (S.blocks source.now) }
+    requires { length (S.function source.now).blocks ≤ 1024 }
+    ensures { result ≡ blocks_walked S.tag (S.function source.now) identifiers (S.function source.now).blocks }
 {
     let mut walked = 0;
     for i in 0..source.block_count() {

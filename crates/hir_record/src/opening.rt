@@ -33,11 +33,7 @@ impl Source for RecordSource<'_> {
 
     ghost tag = { 1 };
 
-    ghost blocks = { λ s. (told s).blocks };
-
-    ghost instructions = { λ s. (told s).instructions };
-
-    ghost words = { λ s. (told s).words };
+    ghost function = { told };
 
     fn source_kind(&self) -> u32 {
         Self::KIND
