@@ -1,6 +1,6 @@
 // Kinds by their names, which are those of the enums' variants.
 use crate::error::Wanted;
-use react_compiler_hir::{BlockKind, InstructionKind, TerminalKind};
+use react_compiler_hir::{BlockKind, InstructionKind, Kind, TerminalKind};
 use std::alloc::{AllocError, Global};
 
 // A numbered kind that a listing may name.

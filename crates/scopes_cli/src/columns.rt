@@ -1,7 +1,7 @@
 // The facts in columns, for a person.
 use crate::page::Page;
 use react_compiler_hir::{
-    BlockKind, BlockRow, InstructionKind, InstructionRow, Source, TerminalKind,
+    BlockKind, BlockRow, InstructionKind, InstructionRow, Kind, Source, TerminalKind,
 };
 use std::alloc::{AllocError, Global};
 use std::io;
