@@ -4,7 +4,7 @@ use Rattle.std.specs.List.{AllByRecursion}
 use Rattle.std.proofs.lemmas.Bool.{and_parts}
 use Rattle.hir_faults.specs.declared.fault.Envelope.{Envelope}
 use Rattle.hir_faults.specs.declared.fault.Fault.{Fault}
-use Rattle.function_tests.specs.All.{all}
+use Rattle.std.specs.List.{list_all}
 use Rattle.function_tests.specs.Steps.{then, unless, walked}
 
 -- both steps gave an answer
@@ -30,10 +30,10 @@ pub unless_then_passed : {Y : Type 0} (holds : Bool) (fault : Envelope Fault) (n
 unless_then_passed true fault next y e = (refl, e)
 unless_then_passed false fault next y e = let z : ◌≡◌ {A = ℕ} 0 1 = cc in absurd (omega arith)
 
-pub all_true : {X : Type 0} (test : X → Bool) (xs : List X) → all test xs ≡ true → AllByRecursion (λ x. test x ≡ true) xs
+pub all_true : {X : Type 0} (test : X → Bool) (xs : List X) → list_all test xs ≡ true → AllByRecursion (λ x. test x ≡ true) xs
 all_true test [] e = tt
 all_true test (x ∷ xs) e =
-    let both = and_parts (test x) (all test xs) e in
+    let both = and_parts (test x) (list_all test xs) e in
     (both.0, all_true test xs both.1)
 
 -- what a test says of the element that passes it holds of every element of a walk

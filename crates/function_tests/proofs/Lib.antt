@@ -1,3 +1,2 @@
 pub mod Alls
-pub mod Sounds
 pub mod Walking

@@ -1,4 +1,3 @@
-pub mod All
 pub mod Steps
 pub mod Rows
 pub mod Ranges

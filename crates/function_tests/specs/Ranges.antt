@@ -7,7 +7,7 @@ use Rattle.react_compiler_hir.specs.declared.rows.IdentifierRow.{IdentifierRow}
 use Rattle.react_compiler_hir.specs.declared.rows.InstructionRow.{InstructionRow}
 use Rattle.react_compiler_hir.specs.Rows.{scope_of}
 use Rattle.visitors.specs.Parts.{words_of, targets_of, reads_of}
-use Rattle.function_tests.specs.All.{all}
+use Rattle.std.specs.List.{list_all}
 
 -- a range is empty, or lies within the numbers 1 to n and may end after the last; none runs backward
 abbrev pub range_sound : ℕ → MutableRange → Bool
@@ -31,7 +31,7 @@ abbrev pub names_sound : ℕ → List ScopeRow → List IdentifierRow → ℕ �
 names_sound n ss ds i = identifier_sound n ss (slice_get ds i)
 
 abbrev pub all_sound : ℕ → List ScopeRow → List IdentifierRow → List ℕ → Bool
-all_sound n ss ds is = all (names_sound n ss ds) is
+all_sound n ss ds is = list_all (names_sound n ss ds) is
 
 -- all that an instruction mentions, each once
 abbrev pub instruction_sound : ℕ → List ScopeRow → List IdentifierRow → List ℕ → InstructionRow → Bool
@@ -47,4 +47,4 @@ abbrev pub scope_known : ℕ → IdentifierRow → Bool
 scope_known scopes d = position_known scopes (scope_of d)
 
 abbrev pub all_known : ℕ → List IdentifierRow → Bool
-all_known scopes ds = all (scope_known scopes) ds
+all_known scopes ds = list_all (scope_known scopes) ds

@@ -1,5 +1,5 @@
 -- What a block row and an instruction row must be, on their own and beside the tables.
-use Rattle.std.specs.Prelude.{ℕ, ◌+◌, Bool, false, ◌&&◌, ltb, List, length, Some, None, Option, nat_le, nat_lt}
+use Rattle.std.specs.Prelude.{ℕ, ◌+◌, Bool, false, ◌&&◌, List, length, Some, None, Option, nat_le, nat_lt}
 use Rattle.std.specs.List.{slice_get}
 use Rattle.react_compiler_hir.specs.declared.rows.BlockRow.{BlockRow}
 use Rattle.react_compiler_hir.specs.declared.rows.InstructionRow.{InstructionRow}
@@ -9,7 +9,7 @@ use Rattle.visitors.specs.declared.shapes.TerminalShape.{TerminalShape}
 use Rattle.visitors.specs.Arities.{allows}
 use Rattle.visitors.specs.Shapes.{instruction_shapes, terminal_shapes}
 use Rattle.visitors.specs.Parts.{words_of, reads_of}
-use Rattle.function_tests.specs.All.{all}
+use Rattle.std.specs.List.{list_all}
 use Rattle.visitors.specs.Mentions.{instruction_lvalues, terminal_operands, terminal_successors}
 
 -- a row with these part counts is one that the kind can have
@@ -41,7 +41,7 @@ block_fits f b =
 
 -- every word is a position below the limit
 abbrev pub all_below : ℕ → List ℕ → Bool
-all_below limit ws = all (λ w. ltb w limit) ws
+all_below limit ws = list_all (λ w. nat_lt w limit) ws
 
 -- what the row mentions is in its table: so many identifiers, so many blocks
 abbrev pub instruction_known : HirFunction → ℕ → InstructionRow → Bool

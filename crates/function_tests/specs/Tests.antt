@@ -1,5 +1,5 @@
 -- All the tests before a pass, in their order.
-use Rattle.std.specs.Prelude.{ℕ, ◌+◌, ◌*◌, Bool, not, ◌&&◌, List, length, Ok, Result, ◌==◌, nat_le}
+use Rattle.std.specs.Prelude.{ℕ, ◌+◌, ◌*◌, min, Bool, not, ◌&&◌, List, length, Ok, Result, ◌==◌, nat_le}
 use Rattle.hir_faults.specs.declared.fault.Envelope.{Envelope}
 use Rattle.hir_faults.specs.declared.fault.Fault.{Fault}
 use Rattle.hir_faults.specs.declared.fault.FunctionFault.TheVariants.{OverLimit, NoBlock, NotInTable}
@@ -18,6 +18,9 @@ within_limits f scopes identifiers =
     nat_le (length f.blocks) 1024 && nat_le (length f.instructions) 16384 && nat_le (length f.words) 65536 &&
     nat_le scopes 1024 && nat_le identifiers 16384
 
+abbrev most_words : ℕ
+most_words = 18446744073709551615
+
 -- eight words for each block and each scope; a merge wants a row of each sort for each scope too
 abbrev words_enough : ℕ → ℕ → ℕ → Bool
 words_enough blocks scopes words = nat_le (8 * blocks + 8 * scopes) words
@@ -26,6 +29,11 @@ abbrev pub memory_enough : ℕ → ℕ → Memory → Bool
 memory_enough blocks scopes (Align words) = words_enough blocks scopes words
 memory_enough blocks scopes (Merge words openings closings roots) =
     words_enough blocks scopes words && nat_le scopes openings && nat_le scopes closings && nat_le scopes roots
+
+-- exactly what a merge wants, as far as a memory can have so many words
+abbrev pub enough_for_merge : ℕ → ℕ → Memory
+enough_for_merge blocks scopes =
+    Merge (min (8 * min (blocks + scopes) most_words) most_words) scopes scopes scopes
 
 module _ (kind : ℕ) (f : HirFunction) (ss : List ScopeRow) (ds : List IdentifierRow) (memory : Memory) where
   -- the tests that look at no row of the function

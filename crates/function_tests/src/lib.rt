@@ -1,11 +1,13 @@
 // The tests that both passes make before they change anything. An inner crate.
 #![tactic(auto)]
 
+mod each;
 mod memory;
 mod places;
 mod ranges;
 mod reach;
 mod rows;
+mod tested;
 mod testing;
 mod walk;
 

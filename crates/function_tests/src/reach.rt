@@ -4,88 +4,78 @@ ghost use Rattle.visitors.specs.Mentions.{instructions_of};
 ghost use Rattle.function_tests.specs.Ranges.{instruction_sound};
 ghost use Rattle.function_tests.specs.Walks.{instruction_ranged, run_ranged, block_ranged, blocks_ranged};
 
+use crate::each::test_each;
 use crate::places::fault_at;
-use crate::ranges::{names_sound, part_sound};
-use hir_faults::{Envelope, Fault, FunctionFault};
-use react_compiler_hir::{BlockRow, IdentifierRow, InstructionRow, ScopeRow, Source};
+use crate::tested::Tested;
+use hir_faults::{Envelope, Fault, FunctionFault, Place};
+use react_compiler_hir::{BlockRow, InstructionRow, Source};
 use visitors::{operands, reads, targets};
 
-// Whether all that an instruction mentions names scopes with sound ranges. The target of a
-// StoreContext is an operand too, but a second look at it would tell nothing new.
-fn instruction_sound<S: Source>(
-    source: &S,
-    row: &InstructionRow,
-    last: u32,
-    scopes: &[ScopeRow],
-    identifiers: &[IdentifierRow],
-) -> bool
-    ensures { result ≡ instruction_sound last scopes.now identifiers.now (S.function source.now).words row.now }
-{
-    names_sound(row.lvalue, last, scopes, identifiers)
-        && part_sound(source, targets(row), last, scopes, identifiers)
-        && part_sound(source, reads(row), last, scopes, identifiers)
-}
+impl<S: Source> Tested<'_, S> {
+    // Whether all that an instruction mentions names scopes with sound ranges. The target of a
+    // StoreContext is an operand too, but a second look at it would tell nothing new.
+    fn instruction_sound(&self, row: &InstructionRow, last: u32) -> bool
+        ensures { result ≡ instruction_sound last self.now.scopes.now self.now.identifiers.now (S.function self.now.source.now).words row.now }
+    {
+        self.names_sound(row.lvalue, last)
+            && self.part_sound(targets(row), last)
+            && self.part_sound(reads(row), last)
+    }
 
-fn reach_run<S: Source>(
-    source: &S,
-    row: &BlockRow,
-    block: u32,
-    last: u32,
-    scopes: &[ScopeRow],
-    identifiers: &[IdentifierRow],
-) -> Result<(), Envelope<Fault>>
-    ensures { result ≡ run_ranged S.tag (S.function source.now) scopes.now identifiers.now last block (instructions_of (S.function source.now).instructions row.now) }
-{
-    for step in 0..row.instruction_count {
-        let Some(instruction) = source.instruction(row.first_instruction as usize + step as usize)
-        else {
-            return Ok(());
-        };
-        if !instruction_sound(source, &instruction, last, scopes, identifiers) {
-            let source = source.source_kind();
-            return Err(fault_at(block, step, FunctionFault::BadScopeRange { source }));
+    fn reach_instruction(
+        &self,
+        row: &InstructionRow,
+        place: Place,
+        last: u32,
+    ) -> Result<(), Envelope<Fault>>
+        ensures { result ≡ instruction_ranged S.tag (S.function self.now.source.now) self.now.scopes.now self.now.identifiers.now last place.block place.step tt row.now }
+    {
+        let source = self.source.source_kind();
+        if self.instruction_sound(row, last) {
+            Ok(())
+        } else {
+            Err(fault_at(place, FunctionFault::BadScopeRange { source }))
         }
     }
-    Ok(())
-}
 
-fn reach_block<S: Source>(
-    source: &S,
-    row: &BlockRow,
-    block: u32,
-    last: u32,
-    scopes: &[ScopeRow],
-    identifiers: &[IdentifierRow],
-) -> Result<(), Envelope<Fault>>
-    ensures { result ≡ block_ranged S.tag (S.function source.now) scopes.now identifiers.now last block tt row.now }
-{
-    reach_run(source, row, block, last, scopes, identifiers)?;
-    if part_sound(source, operands(row), last, scopes, identifiers) {
-        Ok(())
-    } else {
-        let source = source.source_kind();
-        Err(fault_at(
-            block,
+    fn reach_run(&self, row: &BlockRow, block: u32, last: u32) -> Result<(), Envelope<Fault>>
+        ensures { result ≡ run_ranged S.tag (S.function self.now.source.now) self.now.scopes.now self.now.identifiers.now last block (instructions_of (S.function self.now.source.now).instructions row.now) }
+    {
+        test_each(
+            |i| self.source.instruction(i),
+            row.first_instruction,
             row.instruction_count,
-            FunctionFault::BadScopeRange { source },
-        ))
+            (),
+            |step, (), instruction: InstructionRow| {
+                self.reach_instruction(&instruction, Place { block, step }, last)
+            },
+        )
     }
-}
 
-pub fn reach_blocks<S: Source>(
-    source: &S,
-    last: u32,
-    scopes: &[ScopeRow],
-    identifiers: &[IdentifierRow],
-) -> Result<(), Envelope<Fault>>
-    requires { length (S.function source.now).blocks ≤ 1024 }
-    ensures { result ≡ blocks_ranged S.tag (S.function source.now) scopes.now identifiers.now last (S.function source.now).blocks }
-{
-    for i in 0..source.block_count() {
-        let Some(row) = source.block(i) else {
-            return Ok(());
-        };
-        reach_block(source, &row, i as u32, last, scopes, identifiers)?;
+    fn reach_block(&self, row: &BlockRow, block: u32, last: u32) -> Result<(), Envelope<Fault>>
+        ensures { result ≡ block_ranged S.tag (S.function self.now.source.now) self.now.scopes.now self.now.identifiers.now last block tt row.now }
+    {
+        self.reach_run(row, block, last)?;
+        let source = self.source.source_kind();
+        let step = row.instruction_count;
+        if self.part_sound(operands(row), last) {
+            Ok(())
+        } else {
+            let terminal = Place { block, step };
+            Err(fault_at(terminal, FunctionFault::BadScopeRange { source }))
+        }
     }
-    Ok(())
+
+    pub fn reach_blocks(&self, last: u32) -> Result<(), Envelope<Fault>>
+        requires { length (S.function self.now.source.now).blocks ≤ 1024 }
+        ensures { result ≡ blocks_ranged S.tag (S.function self.now.source.now) self.now.scopes.now self.now.identifiers.now last (S.function self.now.source.now).blocks }
+    {
+        test_each(
+            |i| self.source.block(i),
+            0,
+            self.source.block_count() as u32,
+            (),
+            |block, (), row: BlockRow| self.reach_block(&row, block, last),
+        )
+    }
 }

@@ -3,118 +3,96 @@ ghost use Rattle.std.specs.Prelude.{◌≡◌, ◌≤◌, length};
 ghost use Rattle.visitors.specs.Mentions.{instructions_of};
 ghost use Rattle.function_tests.specs.Walks.{number_tested, instruction_tested, block_tested, run_walked, block_walked, blocks_walked};
 
+use crate::each::test_each;
 use crate::places::fault_at;
-use crate::rows::{block_fits, block_known, instruction_fits, instruction_known};
-use hir_faults::{Envelope, Fault, FunctionFault};
+use crate::tested::Tested;
+use hir_faults::{Envelope, Fault, FunctionFault, Place};
 use react_compiler_hir::{BlockRow, InstructionRow, Source};
 
 // The number must be the next after those walked so far; it then says how many there are.
-fn test_number(
-    source: u32,
-    block: u32,
-    step: u32,
-    walked: u32,
-    number: u32,
-) -> Result<u32, Envelope<Fault>>
-    ensures { result ≡ number_tested source block step walked number }
+fn test_number(source: u32, place: Place, walked: u32, number: u32) -> Result<u32, Envelope<Fault>>
+    ensures { result ≡ number_tested source place.block place.step walked number }
 {
-    if u64::from(number) == u64::from(walked) + 1 {
+    if walked.checked_add(1) == Some(number) {
         Ok(number)
     } else {
-        Err(fault_at(block, step, FunctionFault::OutOfOrder { source }))
+        Err(fault_at(place, FunctionFault::OutOfOrder { source }))
     }
 }
 
-fn test_instruction<S: Source>(
-    source: &S,
-    row: &InstructionRow,
-    block: u32,
-    step: u32,
-    walked: u32,
-    identifiers: usize,
-) -> Result<u32, Envelope<Fault>>
-    ensures { result ≡ instruction_tested S.tag (S.function source.now) identifiers block step walked row.now }
-{
-    let kind = source.source_kind();
-    if !instruction_fits(source, row) {
-        return Err(fault_at(block, step, FunctionFault::OutOfRange { source: kind }));
+impl<S: Source> Tested<'_, S> {
+    fn test_instruction(
+        &self,
+        row: &InstructionRow,
+        place: Place,
+        walked: u32,
+    ) -> Result<u32, Envelope<Fault>>
+        ensures { result ≡ instruction_tested S.tag (S.function self.now.source.now) (length self.now.identifiers.now) place.block place.step walked row.now }
+    {
+        let source = self.source.source_kind();
+        if !self.instruction_fits(row) {
+            return Err(fault_at(place, FunctionFault::OutOfRange { source }));
+        }
+        if !self.instruction_known(row) {
+            return Err(fault_at(place, FunctionFault::NotInTable { source }));
+        }
+        test_number(source, place, walked, row.number)
     }
-    if !instruction_known(source, row, identifiers) {
-        return Err(fault_at(block, step, FunctionFault::NotInTable { source: kind }));
-    }
-    test_number(kind, block, step, walked, row.number)
-}
 
-fn test_block<S: Source>(
-    source: &S,
-    row: &BlockRow,
-    block: u32,
-    identifiers: usize,
-) -> Result<(), Envelope<Fault>>
-    ensures { result ≡ block_tested S.tag (S.function source.now) identifiers block row.now }
-{
-    let kind = source.source_kind();
-    if !block_fits(source, row) {
-        return Err(fault_at(block, 0, FunctionFault::OutOfRange { source: kind }));
+    fn test_block(&self, row: &BlockRow, block: u32) -> Result<(), Envelope<Fault>>
+        ensures { result ≡ block_tested S.tag (S.function self.now.source.now) (length self.now.identifiers.now) block row.now }
+    {
+        let source = self.source.source_kind();
+        let entry = Place { block, step: 0 };
+        if !self.block_fits(row) {
+            return Err(fault_at(entry, FunctionFault::OutOfRange { source }));
+        }
+        if !self.block_known(row) {
+            return Err(fault_at(entry, FunctionFault::NotInTable { source }));
+        }
+        Ok(())
     }
-    if !block_known(source, row, identifiers) {
-        return Err(fault_at(block, 0, FunctionFault::NotInTable { source: kind }));
-    }
-    Ok(())
-}
 
-// A block's instructions. A run that leaves the instructions ends with them.
-fn walk_run<S: Source>(
-    source: &S,
-    row: &BlockRow,
-    block: u32,
-    before: u32,
-    identifiers: usize,
-) -> Result<u32, Envelope<Fault>>
-    ensures { result ≡ run_walked S.tag (S.function source.now) identifiers block before (instructions_of (S.function source.now).instructions row.now) }
-{
-    let mut walked = before;
-    for step in 0..row.instruction_count {
-        let Some(instruction) = source.instruction(row.first_instruction as usize + step as usize)
-        else {
-            return Ok(walked);
-        };
-        walked = test_instruction(source, &instruction, block, step, walked, identifiers)?;
+    // A block's instructions. A run that leaves the instructions ends with them.
+    fn walk_run(&self, row: &BlockRow, block: u32, before: u32) -> Result<u32, Envelope<Fault>>
+        ensures { result ≡ run_walked S.tag (S.function self.now.source.now) (length self.now.identifiers.now) block before (instructions_of (S.function self.now.source.now).instructions row.now) }
+    {
+        test_each(
+            |i| self.source.instruction(i),
+            row.first_instruction,
+            row.instruction_count,
+            before,
+            |step, walked, instruction: InstructionRow| {
+                self.test_instruction(&instruction, Place { block, step }, walked)
+            },
+        )
     }
-    Ok(walked)
-}
 
-fn walk_block<S: Source>(
-    source: &S,
-    row: &BlockRow,
-    block: u32,
-    before: u32,
-    identifiers: usize,
-) -> Result<u32, Envelope<Fault>>
-    ensures { result ≡ block_walked S.tag (S.function source.now) identifiers block before row.now }
-{
-    test_block(source, row, block, identifiers)?;
-    let walked = walk_run(source, row, block, before, identifiers)?;
-    test_number(
-        source.source_kind(),
-        block,
-        row.instruction_count,
-        walked,
-        row.terminal_number,
-    )
-}
-
-// Walks all blocks, and answers how many numbers there are.
-pub fn walk_blocks<S: Source>(source: &S, identifiers: usize) -> Result<u32, Envelope<Fault>>
-    requires { length (S.function source.now).blocks ≤ 1024 }
-    ensures { result ≡ blocks_walked S.tag (S.function source.now) identifiers (S.function source.now).blocks }
-{
-    let mut walked = 0;
-    for i in 0..source.block_count() {
-        let Some(row) = source.block(i) else {
-            return Ok(walked);
-        };
-        walked = walk_block(source, &row, i as u32, walked, identifiers)?;
+    fn walk_block(&self, row: &BlockRow, block: u32, before: u32) -> Result<u32, Envelope<Fault>>
+        ensures { result ≡ block_walked S.tag (S.function self.now.source.now) (length self.now.identifiers.now) block before row.now }
+    {
+        self.test_block(row, block)?;
+        let walked = self.walk_run(row, block, before)?;
+        let step = row.instruction_count;
+        test_number(
+            self.source.source_kind(),
+            Place { block, step },
+            walked,
+            row.terminal_number,
+        )
     }
-    Ok(walked)
+
+    // Walks all blocks, and answers how many numbers there are.
+    pub fn walk_blocks(&self) -> Result<u32, Envelope<Fault>>
+        requires { length (S.function self.now.source.now).blocks ≤ 1024 }
+        ensures { result ≡ blocks_walked S.tag (S.function self.now.source.now) (length self.now.identifiers.now) (S.function self.now.source.now).blocks }
+    {
+        test_each(
+            |i| self.source.block(i),
+            0,
+            self.source.block_count() as u32,
+            0,
+            |block, walked, row: BlockRow| self.walk_block(&row, block, walked),
+        )
+    }
 }
