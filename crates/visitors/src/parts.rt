@@ -5,7 +5,7 @@ ghost use Rattle.visitors.specs.Parts.{targets_of, reads_of, operands_of, succes
 use react_compiler_hir::{BlockRow, InstructionRow};
 
 // So many words of a function, from `skip` words after `start` on.
-#[derive(Clone, Copy)]
+#[derive(Clone, Copy, Debug, PartialEq, Eq)]
 pub struct Part {
     pub start: u32,
     pub skip: u32,

@@ -7,362 +7,208 @@ use crate::arity::Arity;
 use react_compiler_hir::row_at;
 
 // The parts of an instruction: its targets, and what it reads beside them.
-#[derive(Clone, Copy)]
+#[derive(Clone, Copy, Debug, PartialEq, Eq)]
 pub struct InstructionShape {
     pub targets: Arity,
     pub reads: Arity,
 }
 
 // The parts of a terminal, and whether its last successor is its fallthrough.
-#[derive(Clone, Copy)]
+#[derive(Clone, Copy, Debug, PartialEq, Eq)]
 pub struct TerminalShape {
     pub operands: Arity,
     pub successors: Arity,
     pub falls_through: bool,
 }
 
+// The shapes of instructions, by what they write and read.
+const NO_READ: InstructionShape = InstructionShape {
+    targets: Arity::Exactly(0),
+    reads: Arity::Exactly(0),
+};
+
+const ONE_READ: InstructionShape = InstructionShape {
+    targets: Arity::Exactly(0),
+    reads: Arity::Exactly(1),
+};
+
+const TWO_READS: InstructionShape = InstructionShape {
+    targets: Arity::Exactly(0),
+    reads: Arity::Exactly(2),
+};
+
+const THREE_READS: InstructionShape = InstructionShape {
+    targets: Arity::Exactly(0),
+    reads: Arity::Exactly(3),
+};
+
+const ANY_READS: InstructionShape = InstructionShape {
+    targets: Arity::Exactly(0),
+    reads: Arity::AtLeast(0),
+};
+
+const ONE_READ_OR_MORE: InstructionShape = InstructionShape {
+    targets: Arity::Exactly(0),
+    reads: Arity::AtLeast(1),
+};
+
+const TWO_READS_OR_MORE: InstructionShape = InstructionShape {
+    targets: Arity::Exactly(0),
+    reads: Arity::AtLeast(2),
+};
+
+const ONE_TARGET: InstructionShape = InstructionShape {
+    targets: Arity::Exactly(1),
+    reads: Arity::Exactly(0),
+};
+
+const ONE_TARGET_ONE_READ: InstructionShape = InstructionShape {
+    targets: Arity::Exactly(1),
+    reads: Arity::Exactly(1),
+};
+
+const ANY_TARGETS_ONE_READ: InstructionShape = InstructionShape {
+    targets: Arity::AtLeast(0),
+    reads: Arity::Exactly(1),
+};
+
+// The shapes of terminals: those that leave the function or go elsewhere have no fallthrough, and
+// those with parts have their parts' blocks and then their fallthrough.
+const ENDS: TerminalShape = TerminalShape {
+    operands: Arity::Exactly(0),
+    successors: Arity::Exactly(0),
+    falls_through: false,
+};
+
+const ENDS_WITH_OPERAND: TerminalShape = TerminalShape {
+    operands: Arity::Exactly(1),
+    successors: Arity::Exactly(0),
+    falls_through: false,
+};
+
+const JUMPS: TerminalShape = TerminalShape {
+    operands: Arity::Exactly(0),
+    successors: Arity::Exactly(1),
+    falls_through: false,
+};
+
+const JUMPS_OR_THROWS: TerminalShape = TerminalShape {
+    operands: Arity::Exactly(0),
+    successors: Arity::Between(1, 2),
+    falls_through: false,
+};
+
+const TESTS: TerminalShape = TerminalShape {
+    operands: Arity::Exactly(1),
+    successors: Arity::Exactly(3),
+    falls_through: true,
+};
+
+const SWITCHES: TerminalShape = TerminalShape {
+    operands: Arity::UpToSuccessors,
+    successors: Arity::AtLeast(1),
+    falls_through: true,
+};
+
+const ONE_PART: TerminalShape = TerminalShape {
+    operands: Arity::Exactly(0),
+    successors: Arity::Exactly(2),
+    falls_through: true,
+};
+
+const TWO_PARTS: TerminalShape = TerminalShape {
+    operands: Arity::Exactly(0),
+    successors: Arity::Exactly(3),
+    falls_through: true,
+};
+
+const THREE_PARTS: TerminalShape = TerminalShape {
+    operands: Arity::Exactly(0),
+    successors: Arity::Exactly(4),
+    falls_through: true,
+};
+
+const THREE_PARTS_OR_FOUR: TerminalShape = TerminalShape {
+    operands: Arity::Exactly(0),
+    successors: Arity::Between(4, 5),
+    falls_through: true,
+};
+
+const TRIES: TerminalShape = TerminalShape {
+    operands: Arity::Between(0, 1),
+    successors: Arity::Exactly(3),
+    falls_through: true,
+};
+
 // By the number of the instruction's kind.
 const INSTRUCTION_SHAPES: [InstructionShape; 42] = [
-    // LoadLocal
-    InstructionShape {
-        targets: Arity::Exactly(0),
-        reads: Arity::Exactly(1),
-    },
-    // LoadContext
-    InstructionShape {
-        targets: Arity::Exactly(0),
-        reads: Arity::Exactly(1),
-    },
-    // DeclareLocal
-    InstructionShape {
-        targets: Arity::Exactly(1),
-        reads: Arity::Exactly(0),
-    },
-    // DeclareContext
-    InstructionShape {
-        targets: Arity::Exactly(1),
-        reads: Arity::Exactly(0),
-    },
-    // StoreLocal
-    InstructionShape {
-        targets: Arity::Exactly(1),
-        reads: Arity::Exactly(1),
-    },
-    // StoreContext
-    InstructionShape {
-        targets: Arity::Exactly(1),
-        reads: Arity::Exactly(1),
-    },
-    // Destructure
-    InstructionShape {
-        targets: Arity::AtLeast(0),
-        reads: Arity::Exactly(1),
-    },
-    // Primitive
-    InstructionShape {
-        targets: Arity::Exactly(0),
-        reads: Arity::Exactly(0),
-    },
-    // JSXText
-    InstructionShape {
-        targets: Arity::Exactly(0),
-        reads: Arity::Exactly(0),
-    },
-    // BinaryExpression
-    InstructionShape {
-        targets: Arity::Exactly(0),
-        reads: Arity::Exactly(2),
-    },
-    // NewExpression
-    InstructionShape {
-        targets: Arity::Exactly(0),
-        reads: Arity::AtLeast(1),
-    },
-    // CallExpression
-    InstructionShape {
-        targets: Arity::Exactly(0),
-        reads: Arity::AtLeast(1),
-    },
-    // MethodCall
-    InstructionShape {
-        targets: Arity::Exactly(0),
-        reads: Arity::AtLeast(2),
-    },
-    // UnaryExpression
-    InstructionShape {
-        targets: Arity::Exactly(0),
-        reads: Arity::Exactly(1),
-    },
-    // TypeCastExpression
-    InstructionShape {
-        targets: Arity::Exactly(0),
-        reads: Arity::Exactly(1),
-    },
-    // JsxExpression
-    InstructionShape {
-        targets: Arity::Exactly(0),
-        reads: Arity::AtLeast(0),
-    },
-    // ObjectExpression
-    InstructionShape {
-        targets: Arity::Exactly(0),
-        reads: Arity::AtLeast(0),
-    },
-    // ObjectMethod
-    InstructionShape {
-        targets: Arity::Exactly(0),
-        reads: Arity::AtLeast(0),
-    },
-    // ArrayExpression
-    InstructionShape {
-        targets: Arity::Exactly(0),
-        reads: Arity::AtLeast(0),
-    },
-    // JsxFragment
-    InstructionShape {
-        targets: Arity::Exactly(0),
-        reads: Arity::AtLeast(0),
-    },
-    // RegExpLiteral
-    InstructionShape {
-        targets: Arity::Exactly(0),
-        reads: Arity::Exactly(0),
-    },
-    // MetaProperty
-    InstructionShape {
-        targets: Arity::Exactly(0),
-        reads: Arity::Exactly(0),
-    },
-    // PropertyStore
-    InstructionShape {
-        targets: Arity::Exactly(0),
-        reads: Arity::Exactly(2),
-    },
-    // PropertyLoad
-    InstructionShape {
-        targets: Arity::Exactly(0),
-        reads: Arity::Exactly(1),
-    },
-    // PropertyDelete
-    InstructionShape {
-        targets: Arity::Exactly(0),
-        reads: Arity::Exactly(1),
-    },
-    // ComputedStore
-    InstructionShape {
-        targets: Arity::Exactly(0),
-        reads: Arity::Exactly(3),
-    },
-    // ComputedLoad
-    InstructionShape {
-        targets: Arity::Exactly(0),
-        reads: Arity::Exactly(2),
-    },
-    // ComputedDelete
-    InstructionShape {
-        targets: Arity::Exactly(0),
-        reads: Arity::Exactly(2),
-    },
-    // LoadGlobal
-    InstructionShape {
-        targets: Arity::Exactly(0),
-        reads: Arity::Exactly(0),
-    },
-    // StoreGlobal
-    InstructionShape {
-        targets: Arity::Exactly(0),
-        reads: Arity::Exactly(1),
-    },
-    // FunctionExpression
-    InstructionShape {
-        targets: Arity::Exactly(0),
-        reads: Arity::AtLeast(0),
-    },
-    // TaggedTemplateExpression
-    InstructionShape {
-        targets: Arity::Exactly(0),
-        reads: Arity::AtLeast(1),
-    },
-    // TemplateLiteral
-    InstructionShape {
-        targets: Arity::Exactly(0),
-        reads: Arity::AtLeast(0),
-    },
-    // Await
-    InstructionShape {
-        targets: Arity::Exactly(0),
-        reads: Arity::Exactly(1),
-    },
-    // GetIterator
-    InstructionShape {
-        targets: Arity::Exactly(0),
-        reads: Arity::Exactly(1),
-    },
-    // IteratorNext
-    InstructionShape {
-        targets: Arity::Exactly(0),
-        reads: Arity::Exactly(2),
-    },
-    // NextPropertyOf
-    InstructionShape {
-        targets: Arity::Exactly(0),
-        reads: Arity::Exactly(1),
-    },
-    // PrefixUpdate
-    InstructionShape {
-        targets: Arity::Exactly(1),
-        reads: Arity::Exactly(1),
-    },
-    // PostfixUpdate
-    InstructionShape {
-        targets: Arity::Exactly(1),
-        reads: Arity::Exactly(1),
-    },
-    // Debugger
-    InstructionShape {
-        targets: Arity::Exactly(0),
-        reads: Arity::Exactly(0),
-    },
-    // StartMemoize
-    InstructionShape {
-        targets: Arity::Exactly(0),
-        reads: Arity::AtLeast(0),
-    },
-    // FinishMemoize
-    InstructionShape {
-        targets: Arity::Exactly(0),
-        reads: Arity::Exactly(1),
-    },
+    ONE_READ, // LoadLocal
+    ONE_READ, // LoadContext
+    ONE_TARGET, // DeclareLocal
+    ONE_TARGET, // DeclareContext
+    ONE_TARGET_ONE_READ, // StoreLocal
+    ONE_TARGET_ONE_READ, // StoreContext
+    ANY_TARGETS_ONE_READ, // Destructure
+    NO_READ, // Primitive
+    NO_READ, // JSXText
+    TWO_READS, // BinaryExpression
+    ONE_READ_OR_MORE, // NewExpression
+    ONE_READ_OR_MORE, // CallExpression
+    TWO_READS_OR_MORE, // MethodCall
+    ONE_READ, // UnaryExpression
+    ONE_READ, // TypeCastExpression
+    ANY_READS, // JsxExpression
+    ANY_READS, // ObjectExpression
+    ANY_READS, // ObjectMethod
+    ANY_READS, // ArrayExpression
+    ANY_READS, // JsxFragment
+    NO_READ, // RegExpLiteral
+    NO_READ, // MetaProperty
+    TWO_READS, // PropertyStore
+    ONE_READ, // PropertyLoad
+    ONE_READ, // PropertyDelete
+    THREE_READS, // ComputedStore
+    TWO_READS, // ComputedLoad
+    TWO_READS, // ComputedDelete
+    NO_READ, // LoadGlobal
+    ONE_READ, // StoreGlobal
+    ANY_READS, // FunctionExpression
+    ONE_READ_OR_MORE, // TaggedTemplateExpression
+    ANY_READS, // TemplateLiteral
+    ONE_READ, // Await
+    ONE_READ, // GetIterator
+    TWO_READS, // IteratorNext
+    ONE_READ, // NextPropertyOf
+    ONE_TARGET_ONE_READ, // PrefixUpdate
+    ONE_TARGET_ONE_READ, // PostfixUpdate
+    NO_READ, // Debugger
+    ANY_READS, // StartMemoize
+    ONE_READ, // FinishMemoize
 ];
 
 // By the number of the terminal's kind.
 const TERMINAL_SHAPES: [TerminalShape; 21] = [
-    // Unreachable
-    TerminalShape {
-        operands: Arity::Exactly(0),
-        successors: Arity::Exactly(0),
-        falls_through: false,
-    },
-    // Throw
-    TerminalShape {
-        operands: Arity::Exactly(1),
-        successors: Arity::Exactly(0),
-        falls_through: false,
-    },
-    // Return
-    TerminalShape {
-        operands: Arity::Exactly(1),
-        successors: Arity::Exactly(0),
-        falls_through: false,
-    },
-    // Goto
-    TerminalShape {
-        operands: Arity::Exactly(0),
-        successors: Arity::Exactly(1),
-        falls_through: false,
-    },
-    // If
-    TerminalShape {
-        operands: Arity::Exactly(1),
-        successors: Arity::Exactly(3),
-        falls_through: true,
-    },
-    // Branch
-    TerminalShape {
-        operands: Arity::Exactly(1),
-        successors: Arity::Exactly(3),
-        falls_through: true,
-    },
-    // Switch
-    TerminalShape {
-        operands: Arity::UpToSuccessors,
-        successors: Arity::AtLeast(1),
-        falls_through: true,
-    },
-    // DoWhile
-    TerminalShape {
-        operands: Arity::Exactly(0),
-        successors: Arity::Exactly(3),
-        falls_through: true,
-    },
-    // While
-    TerminalShape {
-        operands: Arity::Exactly(0),
-        successors: Arity::Exactly(3),
-        falls_through: true,
-    },
-    // For
-    TerminalShape {
-        operands: Arity::Exactly(0),
-        successors: Arity::Between(4, 5),
-        falls_through: true,
-    },
-    // ForOf
-    TerminalShape {
-        operands: Arity::Exactly(0),
-        successors: Arity::Exactly(4),
-        falls_through: true,
-    },
-    // ForIn
-    TerminalShape {
-        operands: Arity::Exactly(0),
-        successors: Arity::Exactly(3),
-        falls_through: true,
-    },
-    // Logical
-    TerminalShape {
-        operands: Arity::Exactly(0),
-        successors: Arity::Exactly(2),
-        falls_through: true,
-    },
-    // Ternary
-    TerminalShape {
-        operands: Arity::Exactly(0),
-        successors: Arity::Exactly(2),
-        falls_through: true,
-    },
-    // Optional
-    TerminalShape {
-        operands: Arity::Exactly(0),
-        successors: Arity::Exactly(2),
-        falls_through: true,
-    },
-    // Label
-    TerminalShape {
-        operands: Arity::Exactly(0),
-        successors: Arity::Exactly(2),
-        falls_through: true,
-    },
-    // Sequence
-    TerminalShape {
-        operands: Arity::Exactly(0),
-        successors: Arity::Exactly(2),
-        falls_through: true,
-    },
-    // MaybeThrow
-    TerminalShape {
-        operands: Arity::Exactly(0),
-        successors: Arity::Between(1, 2),
-        falls_through: false,
-    },
-    // Try
-    TerminalShape {
-        operands: Arity::Between(0, 1),
-        successors: Arity::Exactly(3),
-        falls_through: true,
-    },
-    // Scope
-    TerminalShape {
-        operands: Arity::Exactly(0),
-        successors: Arity::Exactly(2),
-        falls_through: true,
-    },
-    // PrunedScope
-    TerminalShape {
-        operands: Arity::Exactly(0),
-        successors: Arity::Exactly(2),
-        falls_through: true,
-    },
+    ENDS, // Unreachable
+    ENDS_WITH_OPERAND, // Throw
+    ENDS_WITH_OPERAND, // Return
+    JUMPS, // Goto
+    TESTS, // If
+    TESTS, // Branch
+    SWITCHES, // Switch
+    TWO_PARTS, // DoWhile
+    TWO_PARTS, // While
+    THREE_PARTS_OR_FOUR, // For
+    THREE_PARTS, // ForOf
+    TWO_PARTS, // ForIn
+    ONE_PART, // Logical
+    ONE_PART, // Ternary
+    ONE_PART, // Optional
+    ONE_PART, // Label
+    ONE_PART, // Sequence
+    JUMPS_OR_THROWS, // MaybeThrow
+    TRIES, // Try
+    ONE_PART, // Scope
+    ONE_PART, // PrunedScope
 ];
 
 // The shape of a kind of instruction, if there is such a kind.
