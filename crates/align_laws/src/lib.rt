@@ -3,32 +3,22 @@
 
 ghost use Rattle.align_laws.specs.Laws.{AlignOnlyWidens, UnmetStay, AlignKeepsSound, BracketEnds, BracketStarts};
 
-pub fn align_only_widens() -> u8
+pub fn align_only_widens()
     ensures { AlignOnlyWidens }
-{
-    0
-}
+{}
 
-pub fn unmet_stay() -> u8
+pub fn unmet_stay()
     ensures { UnmetStay }
-{
-    0
-}
+{}
 
-pub fn align_keeps_sound() -> u8
+pub fn align_keeps_sound()
     ensures { AlignKeepsSound }
-{
-    0
-}
+{}
 
-pub fn bracket_ends() -> u8
+pub fn bracket_ends()
     ensures { BracketEnds }
-{
-    0
-}
+{}
 
-pub fn bracket_starts() -> u8
+pub fn bracket_starts()
     ensures { BracketStarts }
-{
-    0
-}
+{}

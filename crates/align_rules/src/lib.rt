@@ -3,8 +3,6 @@
 
 ghost use Rattle.align_rules.specs.Cases.{CasesHold};
 
-pub fn cases_hold() -> u8
+pub fn cases_hold()
     ensures { CasesHold }
-{
-    0
-}
+{}

@@ -4,14 +4,10 @@
 ghost use Rattle.calls.specs.Kept.{KeptOverCalls};
 ghost use Rattle.calls.specs.Cases.{TenCasesHold};
 
-pub fn kept_over_calls() -> u8
+pub fn kept_over_calls()
     ensures { KeptOverCalls }
-{
-    0
-}
+{}
 
-pub fn ten_cases_hold() -> u8
+pub fn ten_cases_hold()
     ensures { TenCasesHold }
-{
-    0
-}
+{}

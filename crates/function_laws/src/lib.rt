@@ -3,14 +3,10 @@
 
 ghost use Rattle.function_laws.specs.Laws.{PassingIsSound, BlocksFollow};
 
-pub fn passing_is_sound() -> u8
+pub fn passing_is_sound()
     ensures { PassingIsSound }
-{
-    0
-}
+{}
 
-pub fn blocks_follow() -> u8
+pub fn blocks_follow()
     ensures { BlocksFollow }
-{
-    0
-}
+{}

@@ -3,20 +3,14 @@
 
 ghost use Rattle.merge_laws.specs.Laws.{RootsByChains, NamedRootsNeverCross, ExamplesPass};
 
-pub fn roots_by_chains() -> u8
+pub fn roots_by_chains()
     ensures { RootsByChains }
-{
-    0
-}
+{}
 
-pub fn named_roots_never_cross() -> u8
+pub fn named_roots_never_cross()
     ensures { NamedRootsNeverCross }
-{
-    0
-}
+{}
 
-pub fn examples_pass() -> u8
+pub fn examples_pass()
     ensures { ExamplesPass }
-{
-    0
-}
+{}

@@ -4,14 +4,10 @@
 ghost use Rattle.merge_rules.specs.Cases.{ExamplesHold};
 ghost use Rattle.merge_rules.specs.Laws.{MergeWidens};
 
-pub fn examples_hold() -> u8
+pub fn examples_hold()
     ensures { ExamplesHold }
-{
-    0
-}
+{}
 
-pub fn merge_widens() -> u8
+pub fn merge_widens()
     ensures { MergeWidens }
-{
-    0
-}
+{}
