@@ -2,7 +2,8 @@
 use Rattle.std.proofs.Common.{◌≡◌, ℕ, ◌+◌, true, List, [], ◌∷◌, Ok}
 use Rattle.std.specs.List.{AllByRecursion}
 use Rattle.std.proofs.ByRecursion.{All-append, All-map}
-use Rattle.hir_faults.specs.declared.fault.FunctionFault.TheVariants.{BadScopeRange}
+use Rattle.hir_faults.specs.declared.fault.Reason.TheVariants.{BadScopeRange}
+use Rattle.hir_faults.specs.Faults.{because}
 use Rattle.react_compiler_hir.specs.declared.rows.BlockRow.{BlockRow}
 use Rattle.react_compiler_hir.specs.declared.rows.InstructionRow.{InstructionRow}
 use Rattle.react_compiler_hir.specs.declared.rows.ScopeRow.{ScopeRow}
@@ -54,7 +55,7 @@ module _ (kind : ℕ) (f : HirFunction) (ss : List ScopeRow) (ds : List Identifi
 
   tested_sound : (block step : ℕ) (is : List ℕ) (u : Unit {0}) → mentions_tested kind f ss ds n block step is ≡ Ok u → AllByRecursion SoundName is
   tested_sound block step is u e =
-      all_true (names_sound n ss ds) is (unless_passed (all_sound n ss ds is) (at_step block step (BadScopeRange kind)) u e)
+      all_true (names_sound n ss ds) is (unless_passed (all_sound n ss ds is) (at_step block step (because kind BadScopeRange)) u e)
 
   block_sound : (block : ℕ) (u v : Unit {0}) (b : BlockRow) → block_ranged kind f ss ds n block u b ≡ Ok v → Mentioned SoundName f b
   block_sound block u v b e =

@@ -3,7 +3,8 @@ use Rattle.std.proofs.Common.{◌≡◌, ℕ, true, not, ◌&&◌, eqb, leb, Lis
 use Rattle.std.specs.List.{AllByRecursion}
 use Rattle.std.proofs.lemmas.Bool.{and_parts, leb-true, not-true, eqb-false}
 use Rattle.std.proofs.ByRecursion.{All-weaker}
-use Rattle.hir_faults.specs.declared.fault.FunctionFault.TheVariants.{OverLimit, NoBlock, NotInTable}
+use Rattle.hir_faults.specs.declared.fault.Reason.TheVariants.{OverLimit, NoBlock, NotInTable}
+use Rattle.hir_faults.specs.Faults.{because}
 use Rattle.react_compiler_hir.specs.declared.rows.BlockRow.{BlockRow}
 use Rattle.react_compiler_hir.specs.declared.rows.ScopeRow.{ScopeRow}
 use Rattle.react_compiler_hir.specs.declared.rows.IdentifierRow.{IdentifierRow}
@@ -39,13 +40,13 @@ tables_passed kind f ss ds memory u e =
     let known = all_known (length ss) ds in
     let some = not (eqb (length f.blocks) 0) in
     let enough = memory_enough (length f.blocks) (length ss) memory in
-    let from_known = λ (v : Unit {0}). unless known (nowhere (NotInTable kind)) in
-    let from_some = λ (v : Unit {0}). then (unless some (nowhere (NoBlock kind))) from_known in
+    let from_known = λ (v : Unit {0}). unless known (nowhere (because kind NotInTable)) in
+    let from_some = λ (v : Unit {0}). then (unless some (nowhere (because kind NoBlock))) from_known in
     let from_enough = λ (v : Unit {0}). then (unless enough too_little_memory) from_some in
-    let p = unless_then_passed (within_limits f (length ss) (length ds)) (nowhere (OverLimit kind)) from_enough u e in
+    let p = unless_then_passed (within_limits f (length ss) (length ds)) (nowhere (because kind OverLimit)) from_enough u e in
     let q = unless_then_passed enough too_little_memory from_some u p.1 in
-    let r = unless_then_passed some (nowhere (NoBlock kind)) from_known u q.1 in
-    record { limits = p.0; some = r.0; known = unless_passed known (nowhere (NotInTable kind)) u r.1 }
+    let r = unless_then_passed some (nowhere (because kind NoBlock)) from_known u q.1 in
+    record { limits = p.0; some = r.0; known = unless_passed known (nowhere (because kind NotInTable)) u r.1 }
 
 rows_passed : (kind : ℕ) (f : HirFunction) (identifiers block m k : ℕ) (b : BlockRow) → block_walked kind f identifiers block m b ≡ Ok k → RowsPassed f identifiers b
 rows_passed kind f identifiers block m k b e =

@@ -2,7 +2,8 @@
 use Rattle.std.specs.Prelude.{ℕ, ◌+◌, ◌*◌, min, Bool, not, ◌&&◌, List, length, Ok, Result, ◌==◌, nat_le}
 use Rattle.hir_faults.specs.declared.fault.Envelope.{Envelope}
 use Rattle.hir_faults.specs.declared.fault.Fault.{Fault}
-use Rattle.hir_faults.specs.declared.fault.FunctionFault.TheVariants.{OverLimit, NoBlock, NotInTable}
+use Rattle.hir_faults.specs.declared.fault.Reason.TheVariants.{OverLimit, NoBlock, NotInTable}
+use Rattle.hir_faults.specs.Faults.{because}
 use Rattle.react_compiler_hir.specs.declared.rows.ScopeRow.{ScopeRow}
 use Rattle.react_compiler_hir.specs.declared.rows.IdentifierRow.{IdentifierRow}
 use Rattle.react_compiler_hir.specs.Function.{HirFunction}
@@ -39,10 +40,10 @@ module _ (kind : ℕ) (f : HirFunction) (ss : List ScopeRow) (ds : List Identifi
   -- the tests that look at no row of the function
   abbrev pub tables_tested : Result (Unit {0}) (Envelope Fault)
   tables_tested =
-      then (unless (within_limits f (length ss) (length ds)) (nowhere (OverLimit kind))) (λ _.
+      then (unless (within_limits f (length ss) (length ds)) (nowhere (because kind OverLimit))) (λ _.
       then (unless (memory_enough (length f.blocks) (length ss) memory) too_little_memory) (λ _.
-      then (unless (not (length f.blocks == 0)) (nowhere (NoBlock kind))) (λ _.
-      unless (all_known (length ss) ds) (nowhere (NotInTable kind)))))
+      then (unless (not (length f.blocks == 0)) (nowhere (because kind NoBlock))) (λ _.
+      unless (all_known (length ss) ds) (nowhere (because kind NotInTable)))))
 
   -- the first fault, or how many numbers the function has
   abbrev pub function_tested : Result ℕ (Envelope Fault)

@@ -3,7 +3,8 @@
 use Rattle.std.specs.Prelude.{ℕ, ◌+◌, List, Ok, Result, ◌==◌}
 use Rattle.hir_faults.specs.declared.fault.Envelope.{Envelope}
 use Rattle.hir_faults.specs.declared.fault.Fault.{Fault}
-use Rattle.hir_faults.specs.declared.fault.FunctionFault.TheVariants.{OutOfRange, NotInTable, OutOfOrder, BadScopeRange}
+use Rattle.hir_faults.specs.declared.fault.Reason.TheVariants.{OutOfRange, NotInTable, OutOfOrder, BadScopeRange}
+use Rattle.hir_faults.specs.Faults.{because}
 use Rattle.react_compiler_hir.specs.declared.rows.BlockRow.{BlockRow}
 use Rattle.react_compiler_hir.specs.declared.rows.InstructionRow.{InstructionRow}
 use Rattle.react_compiler_hir.specs.declared.rows.ScopeRow.{ScopeRow}
@@ -17,20 +18,20 @@ use Rattle.function_tests.specs.Ranges.{all_sound}
 -- the number is the next after the m numbers walked so far, and is itself how many there are then
 abbrev pub number_tested : ℕ → ℕ → ℕ → ℕ → ℕ → Result ℕ (Envelope Fault)
 number_tested kind block step m number =
-    then (unless (number == m + 1) (at_step block step (OutOfOrder kind))) (λ _. Ok (m + 1))
+    then (unless (number == m + 1) (at_step block step (because kind OutOfOrder))) (λ _. Ok (m + 1))
 
 -- a function from a source of this kind, beside a table of so many identifiers
 module _ (kind : ℕ) (f : HirFunction) (identifiers : ℕ) where
   abbrev pub instruction_tested : ℕ → ℕ → ℕ → InstructionRow → Result ℕ (Envelope Fault)
   instruction_tested block step m r =
-      then (unless (instruction_fits f r) (at_step block step (OutOfRange kind))) (λ _.
-      then (unless (instruction_known f identifiers r) (at_step block step (NotInTable kind))) (λ _.
+      then (unless (instruction_fits f r) (at_step block step (because kind OutOfRange))) (λ _.
+      then (unless (instruction_known f identifiers r) (at_step block step (because kind NotInTable))) (λ _.
       number_tested kind block step m r.number))
 
   abbrev pub block_tested : ℕ → BlockRow → Result (Unit {0}) (Envelope Fault)
   block_tested block b =
-      then (unless (block_fits f b) (at_step block 0 (OutOfRange kind))) (λ _.
-      unless (block_known f identifiers b) (at_step block 0 (NotInTable kind)))
+      then (unless (block_fits f b) (at_step block 0 (because kind OutOfRange))) (λ _.
+      unless (block_known f identifiers b) (at_step block 0 (because kind NotInTable)))
 
   -- a block's instructions, after m numbers
   abbrev pub run_walked : ℕ → ℕ → List InstructionRow → Result ℕ (Envelope Fault)
@@ -50,7 +51,7 @@ module _ (kind : ℕ) (f : HirFunction) (identifiers : ℕ) where
 module _ (kind : ℕ) (f : HirFunction) (ss : List ScopeRow) (ds : List IdentifierRow) (n : ℕ) where
   -- the identifiers mentioned at a step of a block name scopes with sound ranges
   abbrev pub mentions_tested : ℕ → ℕ → List ℕ → Result (Unit {0}) (Envelope Fault)
-  mentions_tested block step is = unless (all_sound n ss ds is) (at_step block step (BadScopeRange kind))
+  mentions_tested block step is = unless (all_sound n ss ds is) (at_step block step (because kind BadScopeRange))
 
   abbrev pub instruction_ranged : ℕ → ℕ → Unit {0} → InstructionRow → Result (Unit {0}) (Envelope Fault)
   instruction_ranged block step u r = mentions_tested block step (instruction_mentions f.words r)

@@ -1,19 +1,33 @@
 // Faults with their places.
 ghost use Rattle.std.specs.Prelude.{◌≡◌};
+ghost use Rattle.hir_faults.specs.Faults.{because};
 ghost use Rattle.function_tests.specs.Steps.{at_step, nowhere, too_little_memory};
 
-use hir_faults::{Envelope, Fault, FunctionFault, PassFault, Place};
+use crate::tested::Tested;
+use hir_faults::{Envelope, Fault, FunctionFault, PassFault, Place, Reason};
+use react_compiler_hir::Source;
 
-pub fn fault_at(place: Place, fault: FunctionFault) -> Envelope<Fault>
-    ensures { result ≡ at_step place.block place.step fault }
-{
-    Envelope::new(Some(place), fault).into()
-}
+impl<S: Source> Tested<'_, S> {
+    fn because(&self, reason: Reason) -> FunctionFault
+        ensures { result ≡ because S.tag reason }
+    {
+        FunctionFault {
+            source: self.source.source_kind(),
+            reason,
+        }
+    }
 
-pub fn fault_nowhere(fault: FunctionFault) -> Envelope<Fault>
-    ensures { result ≡ nowhere fault }
-{
-    Envelope::new(None, fault).into()
+    pub fn fault_at(&self, place: Place, reason: Reason) -> Envelope<Fault>
+        ensures { result ≡ at_step place.block place.step (because S.tag reason) }
+    {
+        Envelope::new(Some(place), self.because(reason)).into()
+    }
+
+    pub fn fault_nowhere(&self, reason: Reason) -> Envelope<Fault>
+        ensures { result ≡ nowhere (because S.tag reason) }
+    {
+        Envelope::new(None, self.because(reason)).into()
+    }
 }
 
 pub fn memory_fault() -> Envelope<Fault>

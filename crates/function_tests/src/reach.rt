@@ -5,9 +5,8 @@ ghost use Rattle.function_tests.specs.Ranges.{instruction_sound};
 ghost use Rattle.function_tests.specs.Walks.{instruction_ranged, run_ranged, block_ranged, blocks_ranged};
 
 use crate::each::test_each;
-use crate::places::fault_at;
 use crate::tested::Tested;
-use hir_faults::{Envelope, Fault, FunctionFault, Place};
+use hir_faults::{Envelope, Fault, Place, Reason};
 use react_compiler_hir::{BlockRow, InstructionRow, Source};
 use visitors::{operands, reads, targets};
 
@@ -30,11 +29,10 @@ impl<S: Source> Tested<'_, S> {
     ) -> Result<(), Envelope<Fault>>
         ensures { result ≡ instruction_ranged S.tag (S.function self.now.source.now) self.now.scopes.now self.now.identifiers.now last place.block place.step tt row.now }
     {
-        let source = self.source.source_kind();
         if self.instruction_sound(row, last) {
             Ok(())
         } else {
-            Err(fault_at(place, FunctionFault::BadScopeRange { source }))
+            Err(self.fault_at(place, Reason::BadScopeRange))
         }
     }
 
@@ -56,13 +54,12 @@ impl<S: Source> Tested<'_, S> {
         ensures { result ≡ block_ranged S.tag (S.function self.now.source.now) self.now.scopes.now self.now.identifiers.now last block tt row.now }
     {
         self.reach_run(row, block, last)?;
-        let source = self.source.source_kind();
         let step = row.instruction_count;
         if self.part_sound(operands(row), last) {
             Ok(())
         } else {
             let terminal = Place { block, step };
-            Err(fault_at(terminal, FunctionFault::BadScopeRange { source }))
+            Err(self.fault_at(terminal, Reason::BadScopeRange))
         }
     }
 

@@ -3,10 +3,10 @@ ghost use Rattle.std.specs.Prelude.{◌≡◌, length};
 ghost use Rattle.function_tests.specs.Tests.{within_limits, tables_tested, function_tested};
 
 use crate::memory::Memory;
-use crate::places::{fault_nowhere, memory_fault};
+use crate::places::memory_fault;
 use crate::ranges::scopes_known;
 use crate::tested::Tested;
-use hir_faults::{Envelope, Fault, FunctionFault};
+use hir_faults::{Envelope, Fault, Reason};
 use react_compiler_hir::{IdentifierRow, ScopeRow, Source};
 
 const MOST_BLOCKS: usize = 1_024;
@@ -34,18 +34,17 @@ impl<S: Source> Tested<'_, S> {
     fn test_tables(&self, memory: Memory) -> Result<(), Envelope<Fault>>
         ensures { result ≡ tables_tested S.tag (S.function self.now.source.now) self.now.scopes.now self.now.identifiers.now memory }
     {
-        let source = self.source.source_kind();
         if !self.within_limits() {
-            return Err(fault_nowhere(FunctionFault::OverLimit { source }));
+            return Err(self.fault_nowhere(Reason::OverLimit));
         }
         if !memory.enough(self.source.block_count(), self.scopes.len()) {
             return Err(memory_fault());
         }
         if self.source.block_count() == 0 {
-            return Err(fault_nowhere(FunctionFault::NoBlock { source }));
+            return Err(self.fault_nowhere(Reason::NoBlock));
         }
         if !scopes_known(self.identifiers, self.scopes.len()) {
-            return Err(fault_nowhere(FunctionFault::NotInTable { source }));
+            return Err(self.fault_nowhere(Reason::NotInTable));
         }
         Ok(())
     }

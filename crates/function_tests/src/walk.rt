@@ -4,23 +4,22 @@ ghost use Rattle.visitors.specs.Mentions.{instructions_of};
 ghost use Rattle.function_tests.specs.Walks.{number_tested, instruction_tested, block_tested, run_walked, block_walked, blocks_walked};
 
 use crate::each::test_each;
-use crate::places::fault_at;
 use crate::tested::Tested;
-use hir_faults::{Envelope, Fault, FunctionFault, Place};
+use hir_faults::{Envelope, Fault, Place, Reason};
 use react_compiler_hir::{BlockRow, InstructionRow, Source};
 
-// The number must be the next after those walked so far; it then says how many there are.
-fn test_number(source: u32, place: Place, walked: u32, number: u32) -> Result<u32, Envelope<Fault>>
-    ensures { result ≡ number_tested source place.block place.step walked number }
-{
-    if walked.checked_add(1) == Some(number) {
-        Ok(number)
-    } else {
-        Err(fault_at(place, FunctionFault::OutOfOrder { source }))
-    }
-}
-
 impl<S: Source> Tested<'_, S> {
+    // The number must be the next after those walked so far; it then says how many there are.
+    fn test_number(&self, place: Place, walked: u32, number: u32) -> Result<u32, Envelope<Fault>>
+        ensures { result ≡ number_tested S.tag place.block place.step walked number }
+    {
+        if walked.checked_add(1) == Some(number) {
+            Ok(number)
+        } else {
+            Err(self.fault_at(place, Reason::OutOfOrder))
+        }
+    }
+
     fn test_instruction(
         &self,
         row: &InstructionRow,
@@ -29,26 +28,24 @@ impl<S: Source> Tested<'_, S> {
     ) -> Result<u32, Envelope<Fault>>
         ensures { result ≡ instruction_tested S.tag (S.function self.now.source.now) (length self.now.identifiers.now) place.block place.step walked row.now }
     {
-        let source = self.source.source_kind();
         if !self.instruction_fits(row) {
-            return Err(fault_at(place, FunctionFault::OutOfRange { source }));
+            return Err(self.fault_at(place, Reason::OutOfRange));
         }
         if !self.instruction_known(row) {
-            return Err(fault_at(place, FunctionFault::NotInTable { source }));
+            return Err(self.fault_at(place, Reason::NotInTable));
         }
-        test_number(source, place, walked, row.number)
+        self.test_number(place, walked, row.number)
     }
 
     fn test_block(&self, row: &BlockRow, block: u32) -> Result<(), Envelope<Fault>>
         ensures { result ≡ block_tested S.tag (S.function self.now.source.now) (length self.now.identifiers.now) block row.now }
     {
-        let source = self.source.source_kind();
         let entry = Place { block, step: 0 };
         if !self.block_fits(row) {
-            return Err(fault_at(entry, FunctionFault::OutOfRange { source }));
+            return Err(self.fault_at(entry, Reason::OutOfRange));
         }
         if !self.block_known(row) {
-            return Err(fault_at(entry, FunctionFault::NotInTable { source }));
+            return Err(self.fault_at(entry, Reason::NotInTable));
         }
         Ok(())
     }
@@ -74,12 +71,7 @@ impl<S: Source> Tested<'_, S> {
         self.test_block(row, block)?;
         let walked = self.walk_run(row, block, before)?;
         let step = row.instruction_count;
-        test_number(
-            self.source.source_kind(),
-            Place { block, step },
-            walked,
-            row.terminal_number,
-        )
+        self.test_number(Place { block, step }, walked, row.terminal_number)
     }
 
     // Walks all blocks, and answers how many numbers there are.

@@ -7,7 +7,8 @@ use Rattle.hir_faults.specs.declared.fault.Envelope.{Envelope}
 use Rattle.hir_faults.specs.declared.fault.RecordFault.{RecordFault}
 use Rattle.hir_faults.specs.declared.fault.RecordFault.TheVariants as record_fault
 use Rattle.hir_faults.specs.declared.fault.FunctionFault.{FunctionFault}
-use Rattle.hir_faults.specs.declared.fault.FunctionFault.TheVariants as function_fault
+use Rattle.hir_faults.specs.declared.fault.Reason.{Reason}
+use Rattle.hir_faults.specs.declared.fault.Reason.TheVariants as reason
 use Rattle.hir_faults.specs.declared.fault.PassFault.{PassFault}
 use Rattle.hir_faults.specs.declared.fault.PassFault.TheVariants as pass_fault
 use Rattle.hir_faults.specs.declared.fault.Fault.{Fault}
@@ -25,13 +26,16 @@ record_number record_fault.UnknownVersion = 3
 record_number record_fault.OverLimit = 4
 record_number record_fault.WrongLength = 5
 
+abbrev pub reason_number : Reason → ℕ
+reason_number reason.OverLimit = 4
+reason_number reason.NoBlock = 7
+reason_number reason.OutOfRange = 8
+reason_number reason.NotInTable = 9
+reason_number reason.OutOfOrder = 10
+reason_number reason.BadScopeRange = 11
+
 abbrev pub function_number : FunctionFault → ℕ
-function_number (function_fault.OverLimit source) = 4
-function_number (function_fault.NoBlock source) = 7
-function_number (function_fault.OutOfRange source) = 8
-function_number (function_fault.NotInTable source) = 9
-function_number (function_fault.OutOfOrder source) = 10
-function_number (function_fault.BadScopeRange source) = 11
+function_number f = reason_number f.reason
 
 abbrev pub pass_number : PassFault → ℕ
 pass_number pass_fault.TooLittleMemory = 6
@@ -45,17 +49,12 @@ fault_number (any.Function f) = function_number f
 fault_number (any.Pass f) = pass_number f
 
 -- a function fault repeats the kind number of its source
-abbrev pub function_source : FunctionFault → ℕ
-function_source (function_fault.OverLimit source) = source
-function_source (function_fault.NoBlock source) = source
-function_source (function_fault.OutOfRange source) = source
-function_source (function_fault.NotInTable source) = source
-function_source (function_fault.OutOfOrder source) = source
-function_source (function_fault.BadScopeRange source) = source
+abbrev pub because : ℕ → Reason → FunctionFault
+because source r = record { source = source; reason = r }
 
 abbrev pub fault_source : Fault → Option ℕ
 fault_source (any.Record f) = None
-fault_source (any.Function f) = Some (function_source f)
+fault_source (any.Function f) = Some f.source
 fault_source (any.Pass f) = None
 
 -- a fault in the envelope of its layer

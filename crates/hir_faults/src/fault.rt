@@ -29,15 +29,22 @@ pub enum RecordFault {
     WrongLength,
 }
 
-// Why a function is no input for a pass; each case repeats the kind number of its source.
+// Why a function is no input for a pass.
 #[derive(Clone, Copy, Debug, PartialEq, Eq)]
-pub enum FunctionFault {
-    OverLimit { source: u32 },
-    NoBlock { source: u32 },
-    OutOfRange { source: u32 },
-    NotInTable { source: u32 },
-    OutOfOrder { source: u32 },
-    BadScopeRange { source: u32 },
+pub enum Reason {
+    OverLimit,
+    NoBlock,
+    OutOfRange,
+    NotInTable,
+    OutOfOrder,
+    BadScopeRange,
+}
+
+// A function that is no input for a pass, with the kind number of its source.
+#[derive(Clone, Copy, Debug, PartialEq, Eq)]
+pub struct FunctionFault {
+    pub source: u32,
+    pub reason: Reason,
 }
 
 // Why a pass, or the loading of rows, could not go on.
@@ -162,13 +169,13 @@ impl LayerFault for FunctionFault {
     }
 
     fn number(self) -> u32 {
-        match self {
-            FunctionFault::OverLimit { .. } => 4,
-            FunctionFault::NoBlock { .. } => 7,
-            FunctionFault::OutOfRange { .. } => 8,
-            FunctionFault::NotInTable { .. } => 9,
-            FunctionFault::OutOfOrder { .. } => 10,
-            FunctionFault::BadScopeRange { .. } => 11,
+        match self.reason {
+            Reason::OverLimit => 4,
+            Reason::NoBlock => 7,
+            Reason::OutOfRange => 8,
+            Reason::NotInTable => 9,
+            Reason::OutOfOrder => 10,
+            Reason::BadScopeRange => 11,
         }
     }
 }
@@ -214,14 +221,7 @@ impl Fault {
     {
         match self {
             Fault::Record(_) | Fault::Pass(_) => None,
-            Fault::Function(
-                FunctionFault::OverLimit { source }
-                | FunctionFault::NoBlock { source }
-                | FunctionFault::OutOfRange { source }
-                | FunctionFault::NotInTable { source }
-                | FunctionFault::OutOfOrder { source }
-                | FunctionFault::BadScopeRange { source },
-            ) => Some(source),
+            Fault::Function(fault) => Some(fault.source),
         }
     }
 }

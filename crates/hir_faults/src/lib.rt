@@ -4,4 +4,6 @@
 mod fault;
 mod meaning;
 
-pub use fault::{Envelope, Fault, FunctionFault, Layer, LayerFault, PassFault, Place, RecordFault};
+pub use fault::{
+    Envelope, Fault, FunctionFault, Layer, LayerFault, PassFault, Place, Reason, RecordFault,
+};

@@ -1,5 +1,5 @@
 // What the layers are called, and what each fault means, for a person.
-use crate::fault::{Fault, FunctionFault, Layer, PassFault, RecordFault};
+use crate::fault::{Fault, FunctionFault, Layer, PassFault, Reason, RecordFault};
 use std::error::Error;
 use std::fmt;
 
@@ -25,22 +25,22 @@ impl fmt::Display for RecordFault {
     }
 }
 
-impl fmt::Display for FunctionFault {
+impl fmt::Display for Reason {
     fn fmt<W: fmt::Write>(&self, f: &mut fmt::Formatter<W>) -> fmt::Result {
         f.write_str(match *self {
-            FunctionFault::OverLimit { .. } => "a list or table is over its limit",
-            FunctionFault::NoBlock { .. } => "the function has no block",
-            FunctionFault::OutOfRange { .. } => {
-                "a field, run, list or part count is out of its range"
-            }
-            FunctionFault::NotInTable { .. } => {
-                "an identifier, scope or successor is not in its table"
-            }
-            FunctionFault::OutOfOrder { .. } => "the numbers do not go 1, 2, 3 along the walk",
-            FunctionFault::BadScopeRange { .. } => {
-                "a named scope runs backward or leaves the function"
-            }
+            Reason::OverLimit => "a list or table is over its limit",
+            Reason::NoBlock => "the function has no block",
+            Reason::OutOfRange => { "a field, run, list or part count is out of its range" }
+            Reason::NotInTable => { "an identifier, scope or successor is not in its table" }
+            Reason::OutOfOrder => "the numbers do not go 1, 2, 3 along the walk",
+            Reason::BadScopeRange => { "a named scope runs backward or leaves the function" }
         })
+    }
+}
+
+impl fmt::Display for FunctionFault {
+    fn fmt<W: fmt::Write>(&self, f: &mut fmt::Formatter<W>) -> fmt::Result {
+        write!(f, "{}", self.reason)
     }
 }
 
