@@ -4,7 +4,9 @@ use Rattle.std.specs.List.{AllByRecursion}
 use Rattle.std.specs.List.Sorted.{IsPermutation}
 use Rattle.std.proofs.ByRecursion.{All-weaker}
 use Rattle.std.proofs.lemmas.List.Sorted.{IsPermutation-refl, IsPermutation-trans, IsPermutation-cons, IsPermutation-swap}
-use Rattle.std.proofs.lemmas.Bool.{cases_Bool, and_parts, and_from, both_ways}
+use Rattle.std.proofs.lemmas.List.Elements.{recursion_from_All}
+use Rattle.std.proofs.lemmas.List.Sums.{AllPass-from_list_all}
+use Rattle.std.proofs.lemmas.Bool.{cases_Bool, and_from, both_ways}
 use Rattle.agenda.specs.Order.{before_all, insert, Ordered}
 use Rattle.agenda.proofs.Orders.{Lawful}
 
@@ -14,8 +16,7 @@ shuffled_past e y ys zs h = IsPermutation-trans (e ∷ y ∷ ys) (y ∷ e ∷ ys
 
 module _ {X : Type 0} (lt : X → X → Bool) (e : X) where
   pub all_before : (xs : List X) → before_all lt e xs ≡ true → AllByRecursion (λ y. lt e y ≡ true) xs
-  all_before [] h = tt
-  all_before (y ∷ ys) h = let p = and_parts (lt e y) (before_all lt e ys) h in (p.0, all_before ys p.1)
+  all_before xs h = recursion_from_All (λ y. lt e y ≡ true) xs (AllPass-from_list_all (lt e) xs h)
 
   all_insert : (P : X → Type 0) (xs : List X) → P e → AllByRecursion P xs → AllByRecursion P (insert lt e xs)
   all_insert P [] p h = (p, h)

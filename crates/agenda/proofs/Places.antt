@@ -1,30 +1,22 @@
 -- An insertion by its place: behind the last entry that what is added does not go before.
-use Rattle.std.proofs.Common.{◌≡◌, ℕ, zero, suc, ◌+◌, ◌-◌, ◌<◌, ◌≤◌, Bool, true, false, List, [], ◌∷◌, ◌++◌, length, get_or, take, drop, set, sym, refl, ap, ◌∙◌, inl, inr, append_assoc, arith}
+use Rattle.std.proofs.Common.{◌≡◌, ℕ, zero, suc, ◌+◌, ◌-◌, ◌<◌, ◌≤◌, Bool, true, false, List, [], ◌∷◌, ◌++◌, length, get_or, take, drop, set, sym, refl, ap, ◌∙◌, append_assoc, arith}
 use lib.Seq.{paste}
 use Rattle.std.proofs.Math.Seq.{set_at, take-set-lt}
 use Rattle.std.proofs.lemmas.List.{take_more, take-take, drop-take, drop-drop, length-take, length-drop, drop-append-le}
 use Rattle.std.proofs.lemmas.List.Edits.{take-paste}
 use Rattle.std.proofs.lemmas.Slice.{between_is}
-use Rattle.std.proofs.lemmas.Bool.{cases_Bool, and_from}
-use Rattle.agenda.specs.Order.{before_all, insert}
+use Rattle.std.proofs.lemmas.List.Folds.{list_all_at}
+use Rattle.std.proofs.lemmas.List.Sums.{list_all-from_AllPass}
+use Rattle.agenda.specs.Order.{insert}
 
 module _ {X : Type 0} (lt : X → X → Bool) (e : X) where
-  before_rest : (xs : List X) → ((i : ℕ) (d : X) → i < length xs → lt e (get_or xs i d) ≡ true) → before_all lt e xs ≡ true
-  before_rest [] h = refl
-  before_rest (y ∷ ys) h = and_from (lt e y) (before_all lt e ys) (h 0 y (omega arith)) (before_rest ys (λ i d l. h (suc i) d (omega arith)))
-
-  not_before_all : (xs : List X) (i : ℕ) (d : X) → i < length xs → lt e (get_or xs i d) ≡ false → before_all lt e xs ≡ false
-  not_before_all [] i d l f = absurd (omega arith)
-  not_before_all (y ∷ ys) zero d l f = rw f
-  not_before_all (y ∷ ys) (suc i) d l f = elim (cases_Bool (lt e y)) [ inl t ↦ rw t (not_before_all ys i d (omega arith) f) | inr n ↦ rw n ]
-
   -- e goes before each entry from k on, and not before the one in front of them
   pub insert_at : (xs : List X) (k : ℕ) → k ≤ length xs → ((i : ℕ) (d : X) → k ≤ i → i < length xs → lt e (get_or xs i d) ≡ true) → ((i : ℕ) (d : X) → i + 1 ≡ k → lt e (get_or xs i d) ≡ false) → insert lt e xs ≡ take k xs ++ e ∷ drop k xs
   insert_at [] zero within passes stays = refl
   insert_at [] (suc k) within passes stays = absurd (omega arith)
-  insert_at (y ∷ ys) zero within passes stays = rw (before_rest (y ∷ ys) (λ i d l. passes i d (omega arith) l))
+  insert_at (y ∷ ys) zero within passes stays = rw (list_all-from_AllPass (lt e) (y ∷ ys) (λ i d l. passes i d (omega arith) l))
   insert_at (y ∷ ys) (suc k) within passes stays =
-      rw (not_before_all (y ∷ ys) k y (omega arith) (stays k y (omega arith)))
+      rw (list_all_at (lt e) (y ∷ ys) k y (omega arith) (stays k y (omega arith)))
       (ap (λ us. y ∷ us) (insert_at ys k (omega arith) (λ i d h l. passes (suc i) d (omega arith) (omega arith)) (λ i d h. stays (suc i) d (omega arith))))
 
 -- the rows from h + k up to n were moved up by one, and e was put at h + k
