@@ -1,4 +1,4 @@
-ghost use Rattle.std.specs.Prelude.{◌≡◌, ℕ, ◌+◌, ◌<◌, ◌≤◌, true, false, [], ◌∷◌, length, slice_index_or, IfSome, if◌then◌else◌, MatchOption, OnErr, is_ok, nat_lt};
+ghost use Rattle.std.specs.Prelude.{◌≡◌, ℕ, ◌+◌, ◌<◌, ◌≤◌, true, false, [], ◌∷◌, length, slice_index_or, IfSome, if◌then◌else◌, MatchOption, OnErr, is_ok, nat_lt, Some, codes};
 ghost use Rattle.std.specs.List.{AllByRecursion};
 ghost use Rattle.std.specs.List.Sorted.{IsPermutation};
 ghost use Rattle.agenda.specs.Order.{insert, Ordered};
@@ -22,6 +22,8 @@ pub struct Agenda<'a, E> {
 pub struct Full;
 
 impl fmt::Display for Full {
+    ghost output = { λ _. Some (codes "no row is free") };
+
     fn fmt<W: fmt::Write>(&self, f: &mut fmt::Formatter<W>) -> fmt::Result {
         f.write_str("no row is free")
     }
