@@ -7,7 +7,8 @@ use crate::entry::Entry;
 use std::error::Error;
 use std::fmt;
 
-// The entries stand in `rows` from `head` up to `tail`, the first at `head`.
+// The entries stand in `rows` from `head` up to `tail`, the first at `head`. The rows are lent by the host, since no pass
+// allocates.
 #[derive(Debug, Drop)]
 pub struct Agenda<'a, E> {
     rows: &'a mut [E],

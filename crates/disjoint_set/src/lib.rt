@@ -12,6 +12,7 @@ ghost use Rattle.disjoint_set.specs.Classes.{sent};
 ghost use Rattle.disjoint_set.specs.Laws.{ClimbEndsAtRoot, FindHangsWhatItPasses, OneRootExactlyByChains};
 ghost use Rattle.disjoint_set.specs.Examples.{FindExample, UnionExample};
 
+// The words are lent by the host, since no pass allocates.
 #[derive(Debug, Drop)]
 pub struct DisjointSet<'a> {
     pub parents: &'a mut [u32],
