@@ -1,10 +1,12 @@
--- An insertion seen from the end of the list; it keeps the order, and brings in one entry.
-use Rattle.std.proofs.Common.{◌≡◌, Bool, true, false, ◌&&◌, List, [], ◌∷◌, ◌++◌, refl, ap, ◌∙◌, inl, inr, arith}
+-- An insertion keeps the order, and brings in one entry.
+use Rattle.std.proofs.Common.{◌≡◌, Bool, true, false, List, [], ◌∷◌, refl, inl, inr, arith}
 use Rattle.std.specs.List.{AllByRecursion}
 use Rattle.std.specs.List.Sorted.{IsPermutation}
 use Rattle.std.proofs.ByRecursion.{All-weaker}
 use Rattle.std.proofs.lemmas.List.Sorted.{IsPermutation-refl, IsPermutation-trans, IsPermutation-cons, IsPermutation-swap}
-use Rattle.std.proofs.lemmas.Bool.{cases_Bool, and_parts, and_from, both_ways}
+use Rattle.std.proofs.lemmas.List.Elements.{recursion_from_All}
+use Rattle.std.proofs.lemmas.List.Sums.{AllPass-from_list_all}
+use Rattle.std.proofs.lemmas.Bool.{cases_Bool, and_from, both_ways}
 use Rattle.agenda.specs.Order.{before_all, insert, Ordered}
 use Rattle.agenda.proofs.Orders.{Lawful}
 
@@ -13,39 +15,8 @@ pub shuffled_past : {X : Type 0} (e y : X) (ys zs : List X) → IsPermutation (e
 shuffled_past e y ys zs h = IsPermutation-trans (e ∷ y ∷ ys) (y ∷ e ∷ ys) (y ∷ zs) (IsPermutation-swap (e ∷ y ∷ ys) (y ∷ e ∷ ys) 0 1 (omega arith) (omega arith) refl) (IsPermutation-cons y (e ∷ ys) zs h)
 
 module _ {X : Type 0} (lt : X → X → Bool) (e : X) where
-  before_all_push : (ys : List X) (y : X) → before_all lt e (ys ++ y ∷ []) ≡ (before_all lt e ys && lt e y)
-  before_all_push [] y = elim (cases_Bool (lt e y)) [ inl t ↦ rw t | inr f ↦ rw f ]
-  before_all_push (z ∷ zs) y = elim (cases_Bool (lt e z)) [ inl t ↦ rw t (before_all_push zs y) | inr f ↦ rw f ]
-
-  -- e passes the last entry
-  pub insert_passes : (ys : List X) (y : X) → lt e y ≡ true → insert lt e (ys ++ y ∷ []) ≡ insert lt e ys ++ y ∷ []
-  insert_passes [] y t = rw t
-  insert_passes (z ∷ zs) y t =
-      let all : before_all lt e (zs ++ y ∷ []) ≡ before_all lt e zs = before_all_push zs y ∙ rw t (and_true (before_all lt e zs)) in
-      elim (cases_Bool (before_all lt e (z ∷ zs))) [
-        | inl b ↦ rw (all, b)
-        | inr b ↦ rw (all, b) (ap (λ us. z ∷ us) (insert_passes zs y t))
-      ]
-    where
-      and_true : (b : Bool) → (b && true) ≡ b
-      and_true true = refl
-      and_true false = refl
-
-  -- e stays behind the last entry
-  pub insert_stays : (ys : List X) (y : X) → lt e y ≡ false → insert lt e (ys ++ y ∷ []) ≡ (ys ++ y ∷ []) ++ e ∷ []
-  insert_stays [] y f = rw f
-  insert_stays (z ∷ zs) y f =
-      let all : before_all lt e (zs ++ y ∷ []) ≡ false = before_all_push zs y ∙ rw f (and_none (before_all lt e zs)) in
-      let none : (lt e z && before_all lt e (zs ++ y ∷ [])) ≡ false = rw all (and_none (lt e z)) in
-      rw none (ap (λ us. z ∷ us) (insert_stays zs y f))
-    where
-      and_none : (b : Bool) → (b && false) ≡ false
-      and_none true = refl
-      and_none false = refl
-
   pub all_before : (xs : List X) → before_all lt e xs ≡ true → AllByRecursion (λ y. lt e y ≡ true) xs
-  all_before [] h = tt
-  all_before (y ∷ ys) h = let p = and_parts (lt e y) (before_all lt e ys) h in (p.0, all_before ys p.1)
+  all_before xs h = recursion_from_All (λ y. lt e y ≡ true) xs (AllPass-from_list_all (lt e) xs h)
 
   all_insert : (P : X → Type 0) (xs : List X) → P e → AllByRecursion P xs → AllByRecursion P (insert lt e xs)
   all_insert P [] p h = (p, h)

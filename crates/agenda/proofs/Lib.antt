@@ -1,5 +1,4 @@
 pub mod Orders
 pub mod Insertions
 pub mod Sorting
-pub mod Rows
-pub mod Sinks
+pub mod Places

@@ -1,15 +1,11 @@
 -- What the law of an order gives: of two entries at most one goes before, and not going before passes on.
-use Rattle.std.proofs.Common.{◌≡◌, ℕ, Bool, true, false, not, ◌⊎◌, List, [], ◌∷◌, sym, refl, ◌∙◌, inl, inr, arith}
-use Rattle.std.proofs.lemmas.Bool.{cases_eq, cases_Bool, both_ways}
+use Rattle.std.proofs.Common.{◌≡◌, ℕ, Bool, true, false, not, List, sym, ◌∙◌, inl, inr}
+use Rattle.std.proofs.Math.Decide.{ℕ_discrete}
+use mathlib.Core.List.{List-discrete}
+use Rattle.std.proofs.lemmas.Bool.{cases_Bool, both_ways}
 
-same_or_not : (xs ys : List ℕ) → (xs ≡ ys) ⊎ (xs ≡ ys → ⊥)
-same_or_not [] [] = inl refl
-same_or_not [] (y ∷ ys) = inr (λ e. let z : ◌≡◌ {A = ℕ} 0 1 = cc in omega arith)
-same_or_not (x ∷ xs) [] = inr (λ e. let z : ◌≡◌ {A = ℕ} 0 1 = cc in omega arith)
-same_or_not (x ∷ xs) (y ∷ ys) = elim (cases_eq x y) [
-  | inl h ↦ elim (same_or_not xs ys) [ inl t ↦ inl (cc) | inr n ↦ inr (λ e. n (cc)) ]
-  | inr n ↦ inr (λ e. n (cc))
-]
+same_or_not : (xs ys : List ℕ) → Dec (xs ≡ ys)
+same_or_not = List-discrete ℕ_discrete
 
 -- what the proofs about insertions need of an order
 pub record Lawful {X : Type 0} (before : X → X → Bool) : Type 0 where
@@ -21,23 +17,23 @@ module _ {X : Type 0} (compared : X → List ℕ) (before : X → X → Bool)
     (one : (x y : X) → (compared x ≡ compared y → ⊥) → before x y ≡ not (before y x))
     (transitive : (x y z : X) → before x y ≡ true → before y z ≡ true → before x z ≡ true) where
   at_most_one : (x y : X) → before x y ≡ true → before y x ≡ false
-  at_most_one x y h = elim (same_or_not (compared y) (compared x)) [ inl e ↦ agree y x e | inr n ↦ one y x n ∙ rw h ]
+  at_most_one x y h = elim (same_or_not (compared y) (compared x)) [ yes e ↦ agree y x e | no n ↦ one y x n ∙ rw h ]
 
   -- where neither goes before the other, a third that goes before the one goes before the other
   before_equal : (x y z : X) → compared x ≡ compared y → before z x ≡ true → before z y ≡ true
   before_equal x y z e h = elim (cases_Bool (before z y)) [
     | inl t ↦ t
     | inr f ↦ elim (same_or_not (compared y) (compared z)) [
-      | inl s ↦ absurd (both_ways (before z x) (agree z x (sym s ∙ sym e)) h)
-      | inr n ↦ absurd (both_ways (before y x) (agree y x (sym e)) (transitive y z x (one y z n ∙ rw f) h))
+      | yes s ↦ absurd (both_ways (before z x) (agree z x (sym s ∙ sym e)) h)
+      | no n ↦ absurd (both_ways (before y x) (agree y x (sym e)) (transitive y z x (one y z n ∙ rw f) h))
     ]
   ]
 
   not_before_passes_on : (x y z : X) → before y x ≡ false → before z y ≡ false → before z x ≡ false
   not_before_passes_on x y z yx zy = elim (cases_Bool (before z x)) [
     | inl t ↦ absurd (both_ways (before z y) zy (elim (same_or_not (compared x) (compared y)) [
-      | inl e ↦ before_equal x y z e t
-      | inr n ↦ transitive z x y t (one x y n ∙ rw yx)
+      | yes e ↦ before_equal x y z e t
+      | no n ↦ transitive z x y t (one x y n ∙ rw yx)
     ]))
     | inr f ↦ f
   ]

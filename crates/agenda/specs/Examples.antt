@@ -1,6 +1,6 @@
 -- Four scopes, added in the order in which they are named, and the order in which they open and close.
 use Rattle.std.specs.Prelude.{◌≡◌, [], ◌∷◌}
-use Rattle.agenda.specs.declared.ScopeEntry.{ScopeEntry}
+use Rattle.agenda.specs.declared.scopes.ScopeEntry.{ScopeEntry}
 use Rattle.agenda.specs.Order.{insert_all}
 use Rattle.agenda.specs.Scopes.{opens_before, closes_before}
 

@@ -1,10 +1,10 @@
 -- Lists of entries in an order.
-use Rattle.std.specs.Prelude.{◌≡◌, Bool, true, false, cond, ◌&&◌, List, [], ◌∷◌}
-use Rattle.std.specs.List.{AllByRecursion}
+use Rattle.std.specs.Prelude.{◌≡◌, Bool, false, cond, List, [], ◌∷◌}
+use Rattle.std.specs.List.{AllByRecursion, list_all}
 
+-- x goes before each
 abbrev pub before_all : {X : Type 0} → (X → X → Bool) → X → List X → Bool
-before_all lt x [] = true
-before_all lt x (y ∷ ys) = lt x y && before_all lt x ys
+before_all lt x ys = list_all (lt x) ys
 
 -- right in front of the longest end of the list that x goes before: so behind the last entry that x does not go before
 abbrev pub insert : {X : Type 0} → (X → X → Bool) → X → List X → List X

@@ -1,6 +1,6 @@
 -- The orders in which scopes open and close.
 use Rattle.std.specs.Prelude.{ℕ, Bool, cond, List, [], ◌∷◌, ◌==◌, nat_lt}
-use Rattle.agenda.specs.declared.ScopeEntry.{ScopeEntry}
+use Rattle.agenda.specs.declared.scopes.ScopeEntry.{ScopeEntry}
 
 -- what cleared rows hold
 abbrev pub zero_entry : ScopeEntry

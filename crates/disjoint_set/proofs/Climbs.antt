@@ -4,6 +4,7 @@ use Rattle.std.proofs.lemmas.List.FromFn.{length-range_with_len, get_or-range_wi
 use Rattle.std.proofs.lemmas.List.{ext_get_or}
 use Rattle.std.proofs.lemmas.Bool.{cases_eq, eq-eqb, ne_eqb}
 use Rattle.disjoint_set.specs.Forest.{up, Climb, Forest, root, apart, below, passed, height}
+use Rattle.disjoint_set.specs.Once.{climb_length}
 use Rattle.disjoint_set.specs.Laws.{ClimbEndsAtRoot}
 
 -- n + 1 numbers that differ do not fit below n
@@ -24,13 +25,6 @@ pigeon (suc m) (suc n) f low differ =
     omega (arith, pigeon m n g lower still)
 
 module _ (ps : List ℕ) where
-  -- a climb's length is its start's alone
-  climb_length : (m n i r s : ℕ) → Climb ps m i r → Climb ps n i s → m ≡ n
-  climb_length zero zero i r s a b = refl
-  climb_length zero (suc n) i r s a b = absurd (b.1 a.1)
-  climb_length (suc m) zero i r s a b = absurd (a.1 b.1)
-  climb_length (suc m) (suc n) i r s a b = ap suc (climb_length m n (get_or ps i 0) r s a.2 b.2)
-
   pub climb_within : (n i r : ℕ) → Climb ps n i r → i < length ps
   climb_within zero i r a = a.0
   climb_within (suc n) i r a = a.0
@@ -59,7 +53,7 @@ module _ (ps : List ℕ) where
   climb_short n i r a =
       let at : (k : ℕ) → k ≤ n → Climb ps (n - k) (up ps k i) r = λ k h. climb_up k (n - k) i r (let e : k + (n - k) ≡ n = omega arith in rw e a) in
       pigeon (length ps) n (λ k. up ps k i) (λ k h. climb_within (n - k) (up ps k i) r (at k h))
-      (λ j k hj hk e. omega (arith, climb_length (n - j) (n - k) (up ps k i) r r (rw e at (at j hj)) (at k hk)))
+      (λ j k hj hk e. omega (arith, climb_length ps (n - j) (n - k) (up ps k i) r r (rw e at (at j hj)) (at k hk)))
 
   pub root_is : (n i r : ℕ) → Climb ps n i r → root ps i ≡ r
   root_is n i r c = up_far n (length ps) i r c (omega (arith, climb_short n i r c))

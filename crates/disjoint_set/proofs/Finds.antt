@@ -50,6 +50,13 @@ module _ (ps : List ℕ) (f : Forest ps) where
   pub compressed_rooted : (i : ℕ) → i < length ps → Rooted ps (compressed ps i) (root ps)
   compressed_rooted i h = let c = climb ps f i h in compressed_climb c.0 i c.1
 
+  -- a find from an item below its root, after the find from its parent
+  pub found : (i r : ℕ) (qs : List ℕ) → i < length ps → (get_or ps i 0 ≡ i → ⊥) → r ≡ root ps (get_or ps i 0) → qs ≡ compressed ps (get_or ps i 0) → (r ≡ root ps i) × (set qs i r ≡ compressed ps i) × Rooted ps (set qs i r) (root ps)
+  found i r qs h ne is left =
+      let p = parent i h ne in
+      let words : set qs i r ≡ compressed ps i = rw (left, is) (sym p.words) in
+      (is ∙ p.same, words, rw words (compressed_rooted i h))
+
 length_hung : (ps : List ℕ) (r : ℕ) (xs : List ℕ) → length (hung ps r xs) ≡ length ps
 length_hung ps r [] = refl
 length_hung ps r (x ∷ xs) = length-set (hung ps r xs) x r ∙ length_hung ps r xs

@@ -120,19 +120,22 @@ joined_rooted ps (x ∷ xs) f w =
 -- k items of xs are attached to the root t: es were the words before, and ps are the words now
 pub record Attaching (es xs : List ℕ) (k t : ℕ) (ps : List ℕ) : Type 0 where
   pub words : attached_all ps t (drop k xs) ≡ attached_all es t xs
-  pub forest : Forest ps
   pub long : length ps ≡ length es
   pub within : t < length ps
   pub own : root ps t ≡ t
 
-pub attaching_none : (es xs : List ℕ) (t : ℕ) → Forest es → t < length es → root es t ≡ t → Attaching es xs 0 t es
-attaching_none es xs t f h own = record { words = refl; forest = f; long = refl; within = h; own = own }
+-- qs are the words after a find of x in ps
+pub attaching_none : (ps qs xs : List ℕ) (x t : ℕ) → Forest ps → x < length ps → t ≡ root ps x → qs ≡ compressed ps x → Attaching qs xs 0 t qs
+attaching_none ps qs xs x t f h is left =
+    let top = root_top ps f x h in
+    let q = compressed_rooted ps f x h in
+    rw (left, is) (record { words = refl; long = refl; within = omega (arith, q.long, top.1); own = q.roots (root ps x) top.1 ∙ root_own ps f (root ps x) top.1 top.0 })
 
 module _ (es xs : List ℕ) (k t : ℕ) (ps : List ℕ) (inv : Attaching es xs k t ps) where
-  pub attaching_more : (qs : List ℕ) → k < length xs → qs ≡ attached ps t (get_or xs k 0) → Forest qs → root qs t ≡ t → length qs ≡ length ps → Attaching es xs (k + 1) t qs
-  attaching_more qs h e f own len =
+  pub attaching_more : (qs : List ℕ) → k < length xs → qs ≡ attached ps t (get_or xs k 0) → root qs t ≡ t → length qs ≡ length ps → Attaching es xs (k + 1) t qs
+  attaching_more qs h e own len =
       let step : attached_all ps t (drop k xs) ≡ attached_all (attached ps t (get_or xs k 0)) t (drop (k + 1) xs) = at_drop_more (attached_all ps t) xs k 0 h in
-      record { words = rw e (sym step ∙ inv.words); forest = f; long = len ∙ inv.long; within = omega (arith, inv.within, len); own = own }
+      record { words = rw e (sym step ∙ inv.words); long = len ∙ inv.long; within = omega (arith, inv.within, len); own = own }
 
   pub attaching_all : length xs ≤ k → ps ≡ attached_all es t xs
   attaching_all h = sym (at_drop_all (attached_all ps t) xs k h) ∙ inv.words

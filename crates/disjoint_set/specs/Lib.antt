@@ -1,4 +1,5 @@
 pub mod Forest
+pub mod Once
 pub mod Joins
 pub mod Classes
 pub mod Laws

@@ -6,7 +6,7 @@ use Rattle.std.proofs.lemmas.Bool.{cases_Bool, ne_eqb, eqb-false}
 use Rattle.react_compiler_hir.specs.declared.rows.ScopeRow.{ScopeRow}
 use Rattle.rules.specs.Rows.{scope_range}
 use Rattle.disjoint_set.specs.Classes.{In}
-use Rattle.agenda.specs.declared.ScopeEntry.{ScopeEntry}
+use Rattle.agenda.specs.declared.scopes.ScopeEntry.{ScopeEntry}
 use Rattle.agenda.specs.Order.{before_all, insert, insert_all, Ordered}
 use Rattle.merge_rules.specs.Named.{is_empty, entries_from}
 use Rattle.merge_rules.specs.Links.{Any}

@@ -8,7 +8,7 @@ use Rattle.react_compiler_hir.specs.Function.{HirFunction}
 use Rattle.function_laws.specs.Sound.{Sound}
 use Rattle.rules.specs.Rows.{Rows, contains, scope_range}
 use Rattle.disjoint_set.specs.Classes.{In}
-use Rattle.agenda.specs.declared.ScopeEntry.{ScopeEntry}
+use Rattle.agenda.specs.declared.scopes.ScopeEntry.{ScopeEntry}
 use Rattle.agenda.specs.Scopes.{opens_before, closes_before}
 use Rattle.agenda.proofs.Sorting.{sorts}
 use Rattle.merge_rules.specs.Named.{named_scopes, named_entries, opening_order, closing_order, opening_at, closing_at}

@@ -1,7 +1,7 @@
 -- The opening order and the closing order are orders, and what they say of scopes that start, or end, together.
 use Rattle.std.proofs.Common.{◌≡◌, ◌≤◌, true, false, arith}
 use Rattle.std.proofs.lemmas.Bool.Decides.{nat_tests}
-use Rattle.agenda.specs.declared.ScopeEntry.{ScopeEntry}
+use Rattle.agenda.specs.declared.scopes.ScopeEntry.{ScopeEntry}
 use Rattle.agenda.specs.Scopes.{opens_before, closes_before}
 use Rattle.agenda.proofs.Orders.{Lawful}
 

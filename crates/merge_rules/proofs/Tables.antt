@@ -12,7 +12,7 @@ use Rattle.react_compiler_hir.specs.Rows.{scope_of}
 use Rattle.react_compiler_hir.specs.Function.{HirFunction}
 use Rattle.visitors.specs.Mentions.{terminal_operands, instructions_of}
 use Rattle.rules.specs.Rows.{Rows, contains, scope_range, identifier_scope}
-use Rattle.agenda.specs.declared.ScopeEntry.{ScopeEntry}
+use Rattle.agenda.specs.declared.scopes.ScopeEntry.{ScopeEntry}
 use Rattle.agenda.specs.Order.{before_all, insert, insert_all}
 use Rattle.agenda.specs.Scopes.{opens_before, closes_before}
 use Rattle.merge_rules.specs.Named.{and_then, is_empty, entries_from, named_scopes, named_entries, opening_order, closing_order}

@@ -7,7 +7,7 @@ use Rattle.react_compiler_hir.specs.Function.{HirFunction}
 use Rattle.visitors.specs.Mentions.{mentions}
 use Rattle.rules.specs.Rows.{Rows, identifier_scope, scope_range}
 use Rattle.disjoint_set.specs.Classes.{among}
-use Rattle.agenda.specs.declared.ScopeEntry.{ScopeEntry}
+use Rattle.agenda.specs.declared.scopes.ScopeEntry.{ScopeEntry}
 use Rattle.agenda.specs.Order.{insert_all}
 use Rattle.agenda.specs.Scopes.{opens_before, closes_before}
 

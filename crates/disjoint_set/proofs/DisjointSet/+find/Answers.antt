@@ -1,39 +1,22 @@
-use Rattle.std.proofs.Common.{◌≡◌, length, set, sym, refl, ap, ◌∙◌, subst, arith}
-use Rattle.disjoint_set.specs.Forest.{Forest, root, compressed}
+use Rattle.std.proofs.Common.{sym, arith}
 use Rattle.disjoint_set.proofs.Climbs.{root_own}
-use Rattle.disjoint_set.proofs.Finds.{parent, compressed_own, compressed_rooted}
+use Rattle.disjoint_set.proofs.Finds.{parent, found}
 use Rattle.disjoint_set.proofs.DisjointSet.+find.Goals as goal
 
-pub returns-then-parent-item : goal.returns-then-parent-item
-returns-then-parent-item t c =
-    let ps = c.args.self.now.parents.now in
-    record {
-      is = sym (root_own ps c.requires.forest c.args.item c.requires.within c.if-parent-item.true);
-      words = sym (compressed_own ps c.args.item c.if-parent-item.true);
-      forest = c.requires.forest;
-      kept = λ j h. refl;
-      len = refl;
-      lender = refl;
-    }
+pub returns-then-parent-item-clause-is : goal.returns-then-parent-item-clause-is
+returns-then-parent-item-clause-is t c = sym (root_own _ c.args.self.now.forest _ c.requires c.if-parent-item.true)
 
 pub find-top-requires : goal.find-top-requires
 find-top-requires t c =
-    let p = parent c.args.self.now.parents.now c.requires.forest c.args.item c.requires.within c.if-parent-item.false in
-    (omega (arith, p.lower, c.decreases), (c.requires.forest, p.within))
+    let p = parent _ c.args.self.now.forest c.args.item c.requires c.if-parent-item.false in
+    (omega (arith, p.lower, c.decreases), p.within)
+
+pub invariant_of-self : goal.invariant_of-self
+invariant_of-self t c =
+    let f = found _ c.args.self.now.forest _ _ _ c.requires c.if-parent-item.false c.find-top.ensures.is c.find-top.ensures.words in
+    record { forest = f.2.forest }
 
 pub returns : goal.returns
 returns t c =
-    let ps = c.args.self.now.parents.now in
-    let i = c.args.item in
-    let found = c.find-top.ensures in
-    let p = parent ps c.requires.forest i c.requires.within c.if-parent-item.false in
-    let after = compressed_rooted ps c.requires.forest i c.requires.within in
-    let words : set c.find-top.new.self.parents.now i c.find-top.result ≡ compressed ps i = rw (found.words, found.is) (sym p.words) in
-    record {
-      is = found.is ∙ p.same;
-      words = words;
-      forest = subst Forest (sym words) after.forest;
-      kept = λ j h. ap (λ qs. root qs j) words ∙ after.roots j h;
-      len = ap length words ∙ after.long;
-      lender = found.lender;
-    }
+    let f = found _ c.args.self.now.forest _ _ _ c.requires c.if-parent-item.false c.find-top.ensures.is c.find-top.ensures.words in
+    record { is = f.0; words = f.1; kept = f.2.roots; len = f.2.long; lender = c.find-top.ensures.lender }
