@@ -1,3 +1,4 @@
+// A list that stays sorted, over lent rows.
 ghost use Rattle.std.specs.Prelude.{◌≡◌, ℕ, ◌+◌, ◌<◌, ◌≤◌, true, false, [], ◌∷◌, length, slice_index_or, IfSome, if◌then◌else◌, MatchOption, OnErr, is_ok, nat_lt, Some, codes};
 ghost use Rattle.std.specs.List.{AllByRecursion};
 ghost use Rattle.std.specs.List.Sorted.{IsPermutation};

@@ -1,3 +1,4 @@
+// What an entry of an agenda must be.
 ghost use Rattle.std.specs.Prelude.{◌≡◌, ℕ, Bool, true, false, not, List, ◌≢◌};
 
 pub trait Entry: Copy {

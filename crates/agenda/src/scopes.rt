@@ -1,3 +1,4 @@
+// Entries for scopes, in the order in which they open and in the order in which they close.
 ghost use Rattle.std.proofs.Common.{rules};
 ghost use Rattle.agenda.specs.Scopes.{opening_numbers, opens_before, closing_numbers, closes_before};
 
