@@ -1,10 +1,11 @@
 -- Rows at equal distances in a record's bytes, by position, and a table filled with them.
-use Rattle.std.proofs.Common.{◌≡◌, ℕ, ◌+◌, ◌*◌, ◌<◌, ◌≤◌, List, [], ◌∷◌, ◌++◌, length, get_or, drop, set, Some, None, sym, ap, ◌∙◌, arith}
+use Rattle.std.proofs.Common.{◌≡◌, ℕ, ◌+◌, ◌*◌, ◌<◌, ◌≤◌, List, [], ◌∷◌, ◌++◌, length, get_or, drop, set, Some, None, sym, ap, ◌∙◌, arith, add-zero}
 use Rattle.std.specs.List.{slice_get}
-use Rattle.std.proofs.lemmas.List.{drop_more, append_assoc, set_at}
+use Rattle.std.proofs.lemmas.List.{drop_more, drop_all, append_assoc, append-nil, set_at}
 use Rattle.std.proofs.lemmas.Option.{slice_get-get_or, slice_get_past}
 use Rattle.std.proofs.lemmas.List.FromFn.{length-map-range_with_len, get_or-map-range_with_len, map-range_with_len_more}
-use Rattle.hir_record.specs.Format.{every}
+use Rattle.react_compiler_hir.specs.RowWords.{word_of}
+use Rattle.hir_record.specs.Format.{every, word, row_at}
 use Rattle.hir_record.specs.Load.{over_first}
 
 module _ {X : Type 0} (row_at : ℕ → X) (start width : ℕ) where
@@ -21,8 +22,8 @@ module _ {X : Type 0} (row_at : ℕ → X) (start width : ℕ) where
   nth_every_past n i h = slice_get_past (every row_at start width n) i (omega (arith, length_every n))
 
   -- the row after those that are filled
-  pub fill_more : (i : ℕ) (old now : List X) → i < length old → now ≡ over_first (every row_at start width i) old → set now i (row_at (start + width * i)) ≡ over_first (every row_at start width (i + 1)) old
-  fill_more i old now h is =
+  pub fill_more : (i : ℕ) (old now : List X) (row : X) → i < length old → now ≡ over_first (every row_at start width i) old → row ≡ row_at (start + width * i) → set now i row ≡ over_first (every row_at start width (i + 1)) old
+  fill_more i old now row h is here =
       let done = every row_at start width i in
       let x = row_at (start + width * i) in
       let rest = drop (i + 1) old in
@@ -32,4 +33,15 @@ module _ {X : Type 0} (row_at : ℕ → X) (start width : ℕ) where
       let last : over_first (every row_at start width (i + 1)) old ≡ done ++ x ∷ rest =
       ap (λ n. every row_at start width (i + 1) ++ drop n old) (length_every (i + 1)) ∙
       ap (λ t. t ++ rest) more ∙ append_assoc done (x ∷ []) rest in
-      ap (λ l. set l i x) was ∙ set_at done (get_or old i x) rest x i (length_every i) ∙ sym last
+      ap (λ r. set now i r) here ∙ ap (λ l. set l i x) was ∙
+      set_at done (get_or old i x) rest x i (length_every i) ∙ sym last
+
+  -- when all are filled, nothing is left of the old rows
+  pub filled : (n : ℕ) (old : List X) → length old ≤ n → over_first (every row_at start width n) old ≡ every row_at start width n
+  filled n old h =
+      let done = every row_at start width n in
+      ap (λ t. done ++ t) (drop_all (length done) old (omega (arith, length_every n))) ∙ append-nil done
+
+-- a row of one word is that word
+pub every_word : (bs : List ℕ) (start n : ℕ) → every (row_at word_of 1 bs) start 4 n ≡ every (word bs) start 4 n
+every_word bs start n = simp add-zero
