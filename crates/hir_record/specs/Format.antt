@@ -26,9 +26,9 @@ has_mark bs = slice_index bs 0 == 72 && slice_index bs 1 == 73 && slice_index bs
 abbrev pub version : List ℕ → ℕ
 version bs = half bs 3
 
--- n rows, each `width` bytes after the one before
+-- n words or rows, each `width` bytes after the one before
 abbrev pub every : {X : Type 0} → (ℕ → X) → ℕ → ℕ → ℕ → List X
-every row_at start width n = map (λ i. row_at (start + width * i)) (range_with_len 0 n)
+every item_at start width n = map (λ i. item_at (start + width * i)) (range_with_len 0 n)
 
 -- n words from a place on
 abbrev pub words_from : List ℕ → ℕ → ℕ → List ℕ
@@ -84,7 +84,7 @@ identifiers_at c = scopes_at c + 12 * c.scopes
 abbrev pub record_length : Counts → ℕ
 record_length c = identifiers_at c + 20 * c.identifiers
 
--- the rows at a place of the bytes
+-- the rows at a place of the bytes; proofs/Fields.antt shows where each of their fields stands
 abbrev pub scope_at : List ℕ → ℕ → ScopeRow
 scope_at bs p = row_at scope_row_of 3 bs p
 

@@ -2,12 +2,11 @@
 ghost use Rattle.std.specs.Prelude.{◌≡◌, ◌*◌, ◌^◌, ◌<◌, ◌≤◌, refl};
 ghost use Rattle.hir_record.specs.Format.{count_words, counts_of_words, over_limit, instructions_at, words_at, scopes_at, identifiers_at, record_length};
 
+use crate::bytes::WORD_BYTES;
 use react_compiler_hir::{BlockRow, IdentifierRow, InstructionRow, Row, ScopeRow};
 
 // The bytes of the mark, the version and the five counts; the blocks begin after them.
 pub const BLOCKS_AT: usize = 25;
-
-pub const WORD_BYTES: usize = 4;
 
 // How many bytes so many rows have.
 fn bytes_of<const N: usize, R: Row<N>>(rows: u32) -> usize

@@ -3,9 +3,9 @@ ghost use Rattle.std.specs.Prelude.{◌≡◌, ◌+◌, ◌*◌, ◌≤◌, leng
 ghost use Rattle.hir_record.specs.Format.{every, row_at};
 ghost use Rattle.hir_record.specs.Load.{loaded, fitting, scopes_after, identifiers_after};
 
-use crate::bytes::read_row;
+use crate::bytes::{WORD_BYTES, read_row};
 use crate::checking::check;
-use crate::counts::{Counts, WORD_BYTES};
+use crate::counts::Counts;
 use hir_faults::{Envelope, Fault, PassFault};
 use react_compiler_hir::{IdentifierRow, Row, ScopeRow};
 

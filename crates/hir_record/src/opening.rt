@@ -4,9 +4,9 @@ ghost use Rattle.std.specs.List.{slice_get};
 ghost use Rattle.hir_record.specs.Format.{every, row_at};
 ghost use Rattle.hir_record.specs.Open.{opened, told};
 
-use crate::bytes::read_row;
+use crate::bytes::{WORD_BYTES, read_row};
 use crate::checking::check;
-use crate::counts::{BLOCKS_AT, WORD_BYTES};
+use crate::counts::BLOCKS_AT;
 use crate::source::RecordSource;
 use react_compiler_hir::{BlockRow, InstructionRow, Row, Source};
 
