@@ -8,7 +8,7 @@ use react_compiler_hir::{BlockRow, IdentifierRow, InstructionRow, Row, ScopeRow}
 // The bytes of the mark, the version and the five counts; the blocks begin after them.
 pub const BLOCKS_AT: usize = 25;
 
-// How many bytes so many rows have.
+// How many bytes so many rows have. No row has more than eight words.
 fn bytes_of<const N: usize, R: Row<N>>(rows: u32) -> usize
     requires { N ≤ 8 }
     ensures { result ≡ 4 * N * rows }

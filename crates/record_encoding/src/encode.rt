@@ -22,7 +22,7 @@ pub struct Listing {
     pub identifiers: Vec<IdentifierRow>,
 }
 
-// A length as a count of a record, or the error that no count can tell it.
+// A length as a count of a record, if 32 bits can tell it.
 pub fn count(length: usize) -> Result<u32, EncodeError>
     ensures { MatchResult result (λ n. n ≡ length) (λ e. (e ≡ EncodeError.TooMany) × (2 ^ 32 ≤ length)) }
 {
