@@ -1,5 +1,5 @@
 -- The record format, from bytes to counts, lists and rows. Numbers have their high byte first.
-use Rattle.std.specs.Prelude.{ℕ, ◌+◌, ◌*◌, Bool, ◌&&◌, ◌||◌, List, map, ◌==◌, nat_lt, slice_index}
+use Rattle.std.specs.Prelude.{ℕ, ◌+◌, ◌*◌, Bool, ◌&&◌, ◌||◌, List, [], ◌∷◌, map, ◌==◌, nat_lt, slice_index}
 use Rattle.std.specs.List.{range_with_len}
 use Rattle.react_compiler_hir.specs.declared.rows.MutableRange.{MutableRange}
 use Rattle.react_compiler_hir.specs.declared.rows.ScopeRow.{ScopeRow}
@@ -7,6 +7,7 @@ use Rattle.react_compiler_hir.specs.declared.rows.IdentifierRow.{IdentifierRow}
 use Rattle.react_compiler_hir.specs.declared.rows.BlockRow.{BlockRow}
 use Rattle.react_compiler_hir.specs.declared.rows.InstructionRow.{InstructionRow}
 use Rattle.react_compiler_hir.specs.Function.{HirFunction}
+use Rattle.react_compiler_hir.specs.RowWords.{scope_row_of, identifier_of, block_of, instruction_of}
 use Rattle.hir_record.specs.declared.counts.Counts.{Counts}
 
 -- a number of two bytes
@@ -25,15 +26,34 @@ has_mark bs = slice_index bs 0 == 72 && slice_index bs 1 == 73 && slice_index bs
 abbrev pub version : List ℕ → ℕ
 version bs = half bs 3
 
-abbrev pub counts_at : List ℕ → ℕ → Counts
-counts_at bs p =
+-- n words or rows, each `width` bytes after the one before
+abbrev pub every : {X : Type 0} → (ℕ → X) → ℕ → ℕ → ℕ → List X
+every item_at start width n = map (λ i. item_at (start + width * i)) (range_with_len 0 n)
+
+-- n words from a place on
+abbrev pub words_from : List ℕ → ℕ → ℕ → List ℕ
+words_from bs p n = every (word bs) p 4 n
+
+-- a row of n words at a place, by how words make a row
+abbrev pub row_at : {X : Type 0} → (List ℕ → X) → ℕ → List ℕ → ℕ → X
+row_at of_words n bs p = of_words (words_from bs p n)
+
+-- the five counts as words, and back
+abbrev pub count_words : Counts → List ℕ
+count_words c = c.blocks ∷ c.instructions ∷ c.words ∷ c.scopes ∷ c.identifiers ∷ []
+
+abbrev pub counts_of_words : List ℕ → Counts
+counts_of_words ws =
     record {
-      blocks = word bs p;
-      instructions = word bs (p + 4);
-      words = word bs (p + 8);
-      scopes = word bs (p + 12);
-      identifiers = word bs (p + 16);
+      blocks = slice_index ws 0;
+      instructions = slice_index ws 1;
+      words = slice_index ws 2;
+      scopes = slice_index ws 3;
+      identifiers = slice_index ws 4;
     }
+
+abbrev pub counts_at : List ℕ → ℕ → Counts
+counts_at bs p = row_at counts_of_words 5 bs p
 
 -- the counts stand after the mark and the version
 abbrev pub counts_of : List ℕ → Counts
@@ -64,44 +84,22 @@ identifiers_at c = scopes_at c + 12 * c.scopes
 abbrev pub record_length : Counts → ℕ
 record_length c = identifiers_at c + 20 * c.identifiers
 
--- the rows at a place of the bytes
-abbrev pub range_at : List ℕ → ℕ → MutableRange
-range_at bs p = record { id = word bs p; start = word bs (p + 4); end = word bs (p + 8) }
-
+-- the rows at a place of the bytes; proofs/Fields.antt shows where each of their fields stands
 abbrev pub scope_at : List ℕ → ℕ → ScopeRow
-scope_at bs p = record { range = range_at bs p }
+scope_at bs p = row_at scope_row_of 3 bs p
+
+-- a range is all that a scope row has
+abbrev pub range_at : List ℕ → ℕ → MutableRange
+range_at bs p = (scope_at bs p).range
 
 abbrev pub identifier_at : List ℕ → ℕ → IdentifierRow
-identifier_at bs p =
-    record { mutable_range = range_at bs p; scope = word bs (p + 12); primitive = word bs (p + 16) }
+identifier_at bs p = row_at identifier_of 5 bs p
 
 abbrev pub block_at : List ℕ → ℕ → BlockRow
-block_at bs p =
-    record {
-      kind = word bs p;
-      first_instruction = word bs (p + 4);
-      instruction_count = word bs (p + 8);
-      terminal_kind = word bs (p + 12);
-      terminal_number = word bs (p + 16);
-      list_start = word bs (p + 20);
-      operand_count = word bs (p + 24);
-      successor_count = word bs (p + 28);
-    }
+block_at bs p = row_at block_of 8 bs p
 
 abbrev pub instruction_at : List ℕ → ℕ → InstructionRow
-instruction_at bs p =
-    record {
-      number = word bs p;
-      kind = word bs (p + 4);
-      lvalue = word bs (p + 8);
-      list_start = word bs (p + 12);
-      target_count = word bs (p + 16);
-      read_count = word bs (p + 20);
-    }
-
--- n rows, each `width` bytes after the one before
-abbrev pub every : {X : Type 0} → (ℕ → X) → ℕ → ℕ → ℕ → List X
-every row_at start width n = map (λ i. row_at (start + width * i)) (range_with_len 0 n)
+instruction_at bs p = row_at instruction_of 6 bs p
 
 -- the parts of a record with these counts
 abbrev pub function_in : List ℕ → Counts → HirFunction

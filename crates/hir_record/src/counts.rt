@@ -1,22 +1,22 @@
 // How many rows and words a record has, and the limits on them.
-ghost use Rattle.std.specs.Prelude.{◌≡◌, ◌^◌, ◌<◌};
-ghost use Rattle.hir_record.specs.Format.{over_limit, instructions_at, words_at, scopes_at, identifiers_at, record_length};
+ghost use Rattle.std.specs.Prelude.{◌≡◌, ◌*◌, ◌^◌, ◌<◌, ◌≤◌, refl};
+ghost use Rattle.hir_record.specs.Format.{count_words, counts_of_words, over_limit, instructions_at, words_at, scopes_at, identifiers_at, record_length};
+
+use crate::bytes::WORD_BYTES;
+use react_compiler_hir::{BlockRow, IdentifierRow, InstructionRow, Row, ScopeRow};
 
 // The bytes of the mark, the version and the five counts; the blocks begin after them.
 pub const BLOCKS_AT: usize = 25;
 
-// How many bytes each row and word has.
-pub const BLOCK_BYTES: usize = 32;
+// How many bytes so many rows have. No row has more than eight words.
+fn bytes_of<const N: usize, R: Row<N>>(rows: u32) -> usize
+    requires { N ≤ 8 }
+    ensures { result ≡ 4 * N * rows }
+{
+    WORD_BYTES * N * rows as usize
+}
 
-pub const INSTRUCTION_BYTES: usize = 24;
-
-pub const WORD_BYTES: usize = 4;
-
-pub const SCOPE_BYTES: usize = 12;
-
-pub const IDENTIFIER_BYTES: usize = 20;
-
-#[derive(Clone, Copy)]
+#[derive(Clone, Copy, Debug, Default, PartialEq, Eq)]
 pub struct Counts {
     pub blocks: u32,
     pub instructions: u32,
@@ -46,12 +46,13 @@ impl Counts {
             || self.scopes > Self::MOST_SCOPES
             || self.identifiers > Self::MOST_IDENTIFIERS
     }
+
     // Where the instructions begin, after the blocks.
     pub(crate) fn instructions_at(&self) -> usize
         ensures value { result ≡ instructions_at self.now }
         ensures bound { result < 2 ^ 40 }
     {
-        BLOCKS_AT + BLOCK_BYTES * self.blocks as usize
+        BLOCKS_AT + bytes_of::<_, BlockRow>(self.blocks)
     }
 
     // Where the words begin, after the instructions.
@@ -59,7 +60,7 @@ impl Counts {
         ensures value { result ≡ words_at self.now }
         ensures bound { result < 2 ^ 41 }
     {
-        self.instructions_at() + INSTRUCTION_BYTES * self.instructions as usize
+        self.instructions_at() + bytes_of::<_, InstructionRow>(self.instructions)
     }
 
     // Where the scopes begin, after the words.
@@ -67,7 +68,7 @@ impl Counts {
         ensures value { result ≡ scopes_at self.now }
         ensures bound { result < 2 ^ 42 }
     {
-        self.words_at() + WORD_BYTES * self.words as usize
+        self.words_at() + bytes_of::<_, u32>(self.words)
     }
 
     // Where the identifiers begin, after the scopes.
@@ -75,13 +76,42 @@ impl Counts {
         ensures value { result ≡ identifiers_at self.now }
         ensures bound { result < 2 ^ 43 }
     {
-        self.scopes_at() + SCOPE_BYTES * self.scopes as usize
+        self.scopes_at() + bytes_of::<_, ScopeRow>(self.scopes)
     }
 
     // How many bytes a record with these counts has.
     pub(crate) fn record_length(&self) -> usize
         ensures { result ≡ record_length self.now }
     {
-        self.identifiers_at() + IDENTIFIER_BYTES * self.identifiers as usize
+        self.identifiers_at() + bytes_of::<_, IdentifierRow>(self.identifiers)
+    }
+}
+
+impl Row<5> for Counts {
+    ghost words = { count_words };
+
+    ghost of_words = { counts_of_words };
+
+    ghost back = { λ c. refl };
+
+    fn words(self) -> [u32; 5] {
+        [
+            self.blocks,
+            self.instructions,
+            self.words,
+            self.scopes,
+            self.identifiers,
+        ]
+    }
+
+    fn from_words(all: &[u32; 5]) -> Counts {
+        let [blocks, instructions, words, scopes, identifiers] = *all;
+        Counts {
+            blocks,
+            instructions,
+            words,
+            scopes,
+            identifiers,
+        }
     }
 }

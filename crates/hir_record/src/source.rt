@@ -6,7 +6,7 @@ use crate::counts::Counts;
 
 // A function in a record's bytes, borrowed. Its counts are those of a record that fits the bytes,
 // or all 0.
-#[derive(Clone, Copy)]
+#[derive(Clone, Copy, Debug)]
 pub struct RecordSource<'a> {
     pub(crate) bytes: &'a [u8],
     pub(crate) counts: Counts,

@@ -1,5 +1,5 @@
 // A function and its two tables, encoded as a record.
-ghost use Rattle.std.specs.Prelude.{◌≡◌, IfOk, OnOk};
+ghost use Rattle.std.specs.Prelude.{◌≡◌, ◌^◌, ◌≤◌, [], IfOk, MatchResult, OnOk};
 ghost use Rattle.record_encoding.specs.Encoding.{opening};
 ghost use Rattle.record_encoding.specs.Listed.{counts_of, header_of, lists_of, record_of};
 
@@ -12,9 +12,6 @@ const MARK: [u8; 3] = *b"HIR";
 
 const VERSION: u16 = 1;
 
-// The most that a count of 32 bits can tell.
-const MOST_ROWS: usize = 4_294_967_295;
-
 // The five lists of a record, in their order.
 #[derive(Drop)]
 pub struct Listing {
@@ -25,14 +22,11 @@ pub struct Listing {
     pub identifiers: Vec<IdentifierRow>,
 }
 
-// A length as a count of a record.
+// A length as a count of a record, if 32 bits can tell it.
 pub fn count(length: usize) -> Result<u32, EncodeError>
-    ensures { IfOk result (λ n. n ≡ length) }
+    ensures { MatchResult result (λ n. n ≡ length) (λ e. (e ≡ EncodeError.TooMany) × (2 ^ 32 ≤ length)) }
 {
-    if length > MOST_ROWS {
-        return Err(EncodeError::TooMany);
-    }
-    Ok(length as u32)
+    u32::try_from(length).map_err(|_| EncodeError::TooMany)
 }
 
 // A record that has no more than its mark and its version.
@@ -47,7 +41,13 @@ fn begin(heap: Global) -> Result<Vec<u8>, AllocError>
 
 impl Listing {
     // Five empty lists.
-    pub fn new(heap: Global) -> Listing {
+    pub fn new(heap: Global) -> Listing
+        ensures blocks { result.blocks.items ≡ [] }
+        ensures instructions { result.instructions.items ≡ [] }
+        ensures words { result.words.items ≡ [] }
+        ensures scopes { result.scopes.items ≡ [] }
+        ensures identifiers { result.identifiers.items ≡ [] }
+    {
         Listing {
             blocks: Vec::new(heap),
             instructions: Vec::new(heap),

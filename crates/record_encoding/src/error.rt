@@ -1,13 +1,26 @@
 // Why five lists make no record.
 use std::alloc::AllocError;
+use std::error::Error;
+use std::fmt;
 
-#[derive(Clone, Copy, Debug)]
+#[derive(Clone, Copy, Debug, PartialEq, Eq)]
 pub enum EncodeError {
     // There was no memory for the bytes.
     Memory,
     // A list has more rows than a count of 32 bits can tell.
     TooMany,
 }
+
+impl fmt::Display for EncodeError {
+    fn fmt<W: fmt::Write>(&self, f: &mut fmt::Formatter<W>) -> fmt::Result {
+        f.write_str(match *self {
+            EncodeError::Memory => "there is no memory for the record",
+            EncodeError::TooMany => "a list has more rows than a count of 32 bits can tell",
+        })
+    }
+}
+
+impl Error for EncodeError {}
 
 impl From<AllocError> for EncodeError {
     fn from(_e: AllocError) -> EncodeError {

@@ -1,0 +1,48 @@
+-- Where each field of a row stands: the first word at the row's place, each further one four bytes on.
+use Rattle.std.proofs.Common.{◌≡◌, ℕ, ◌+◌, List, add-zero}
+use Rattle.hir_record.specs.Format.{word, counts_at, range_at, scope_at, identifier_at, block_at, instruction_at}
+
+module _ (bs : List ℕ) (p : ℕ) where
+  pub counts_fields : counts_at bs p ≡ record {
+    blocks = word bs p;
+    instructions = word bs (p + 4);
+    words = word bs (p + 8);
+    scopes = word bs (p + 12);
+    identifiers = word bs (p + 16);
+  }
+  counts_fields = simp add-zero
+
+  pub range_fields : range_at bs p ≡ record { id = word bs p; start = word bs (p + 4); end = word bs (p + 8) }
+  range_fields = simp add-zero
+
+  pub scope_fields : scope_at bs p ≡ record { range = range_at bs p }
+  scope_fields = simp add-zero
+
+  pub identifier_fields : identifier_at bs p ≡ record {
+    mutable_range = range_at bs p;
+    scope = word bs (p + 12);
+    primitive = word bs (p + 16);
+  }
+  identifier_fields = simp add-zero
+
+  pub block_fields : block_at bs p ≡ record {
+    kind = word bs p;
+    first_instruction = word bs (p + 4);
+    instruction_count = word bs (p + 8);
+    terminal_kind = word bs (p + 12);
+    terminal_number = word bs (p + 16);
+    list_start = word bs (p + 20);
+    operand_count = word bs (p + 24);
+    successor_count = word bs (p + 28);
+  }
+  block_fields = simp add-zero
+
+  pub instruction_fields : instruction_at bs p ≡ record {
+    number = word bs p;
+    kind = word bs (p + 4);
+    lvalue = word bs (p + 8);
+    list_start = word bs (p + 12);
+    target_count = word bs (p + 16);
+    read_count = word bs (p + 20);
+  }
+  instruction_fields = simp add-zero
