@@ -29,8 +29,9 @@ impl<S: Source> fmt::Display for Part<'_, S> {
         let Some(start) = self.start else {
             return f.write_str(" ?");
         };
-        for i in 0..self.count {
-            let Some(word) = self.source.word(start as usize + i as usize) else {
+        let start = start as usize;
+        for at in start..start + self.count as usize {
+            let Some(word) = self.source.word(at) else {
                 return f.write_str(" ?");
             };
             write!(f, " {word}")?;

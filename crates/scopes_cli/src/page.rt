@@ -12,7 +12,7 @@ pub struct Page {
 }
 
 // Why there is no page.
-#[derive(Drop)]
+#[derive(Debug, Drop)]
 pub enum PageError {
     Refused(Envelope<Fault>),
     NoMemory,
