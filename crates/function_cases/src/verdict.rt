@@ -8,14 +8,17 @@ use hir_record::{check, open};
 use listing::parse;
 use react_compiler_hir::{Source, TableSource};
 use record_encoding::Listing;
-use std::io;
+use std::fmt;
 
-fn print_verdict(rt: &HostRuntime, verdict: Result<u32, Envelope<Fault>>) -> io::Result<()> {
-    match verdict {
-        Ok(n) => print!(rt; "sound {n}"),
-        Err(e) => {
-            let line = PlainFault(e);
-            print!(rt; "{line}")
+// How many numbers a sound function has, or the first fault.
+#[derive(Clone, Copy, Debug, PartialEq, Eq)]
+struct Verdict(Result<u32, Envelope<Fault>>);
+
+impl fmt::Display for Verdict {
+    fn fmt<W: fmt::Write>(&self, f: &mut fmt::Formatter<W>) -> fmt::Result {
+        match self.0 {
+            Ok(n) => write!(f, "sound {n}"),
+            Err(e) => write!(f, "{}", PlainFault(e)),
         }
     }
 }
@@ -32,13 +35,12 @@ fn exactly_enough<S: Source>(source: &S, scopes: usize) -> Memory {
     }
 }
 
-fn tested<S: Source>(source: &S, case: &Case, listing: &Listing) -> Result<u32, Envelope<Fault>> {
+fn tested<S: Source>(source: &S, case: &Case, listing: &Listing) -> Verdict {
     let scopes = listing.scopes.as_slice();
-    let memory = match case.memory {
-        Some(memory) => memory,
-        None => exactly_enough(source, scopes.len()),
-    };
-    test_function(source, scopes, listing.identifiers.as_slice(), memory)
+    let memory = case
+        .memory
+        .unwrap_or_else(|| exactly_enough(source, scopes.len()));
+    Verdict(test_function(source, scopes, listing.identifiers.as_slice(), memory))
 }
 
 fn print_both(rt: &HostRuntime, case: &Case, listing: &Listing) -> anyhow::Result<()> {
@@ -47,25 +49,21 @@ fn print_both(rt: &HostRuntime, case: &Case, listing: &Listing) -> anyhow::Resul
         instructions: listing.instructions.as_slice(),
         words: listing.words.as_slice(),
     };
-    print_verdict(rt, tested(&tables, case, listing))?;
+    print!(rt; "{}", tested(&tables, case, listing))?;
     let Ok(record) = listing.record(rt.alloc()) else {
         return Err(anyhow!("no record could be made"));
     };
-    match check(record.as_slice()) {
-        Ok(_) => {
-            rt.print(" | ")?;
-            print_verdict(rt, tested(&open(record.as_slice()), case, listing))?;
-        }
-        Err(_) => rt.print(" | no record")?,
+    if check(record.as_slice()).is_ok() {
+        println!(rt; " | {}", tested(&open(record.as_slice()), case, listing))?;
+    } else {
+        println!(rt; " | no record")?;
     }
-    rt.print("\n")?;
     Ok(())
 }
 
 // One line: the case's name, the verdict over tables, the verdict over its record.
 pub fn print_verdicts(rt: &HostRuntime, case: &Case) -> anyhow::Result<()> {
-    rt.print(case.name.as_str())?;
-    rt.print(": ")?;
+    print!(rt; "{}: ", case.name)?;
     match parse(rt.alloc(), case.listing.as_str()) {
         Ok(listing) => print_both(rt, case, &listing),
         Err(e) => {

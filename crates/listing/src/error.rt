@@ -5,10 +5,8 @@ use std::error::Error;
 use std::fmt;
 
 // What a line was to have at one of its words.
-#[derive(Clone, Copy, Debug)]
+#[derive(Clone, Copy, Debug, PartialEq, Eq)]
 pub enum Wanted {
-    Memory,
-    FewerRows,
     Item,
     Number,
     BlockKind,
@@ -20,15 +18,17 @@ pub enum Wanted {
     Terminal,
 }
 
-// What a line was to have, and the place of the word where it has not.
-#[derive(Clone, Copy, Debug)]
-pub struct Problem {
-    pub wanted: Wanted,
-    pub word: usize,
+// Why a line gives no row: the record has no place for it, or one of the line's words is not what
+// was wanted there.
+#[derive(Clone, Copy, Debug, PartialEq, Eq)]
+pub enum Problem {
+    Memory,
+    TooMany,
+    At { wanted: Wanted, word: usize },
 }
 
 // Why a text makes no record. What was found stands in the text itself, or the line ends there.
-#[derive(Clone, Copy, Debug)]
+#[derive(Clone, Copy, Debug, PartialEq, Eq)]
 pub enum ListingError<'t> {
     Memory,
     TooMany,
@@ -39,31 +39,46 @@ pub enum ListingError<'t> {
     },
 }
 
+impl Wanted {
+    // That it is wanted at this word, and not there.
+    pub(crate) fn at(self, word: usize) -> Problem {
+        Problem::At { wanted: self, word }
+    }
+}
+
+impl Problem {
+    // The problem as that of a text, with the line that has it.
+    pub fn of_line<'t>(self, number: usize, words: &[&'t str]) -> ListingError<'t> {
+        match self {
+            Problem::Memory => ListingError::Memory,
+            Problem::TooMany => ListingError::TooMany,
+            Problem::At { wanted, word } => ListingError::Line {
+                number,
+                wanted,
+                found: words.get(word).copied(),
+            },
+        }
+    }
+}
+
 impl From<AllocError> for Problem {
     fn from(_e: AllocError) -> Problem {
-        Problem {
-            wanted: Wanted::Memory,
-            word: 0,
-        }
+        Problem::Memory
     }
 }
 
 impl<T: Drop> From<AllocFailed<T>> for Problem {
     fn from(_e: AllocFailed<T>) -> Problem {
-        Problem {
-            wanted: Wanted::Memory,
-            word: 0,
-        }
+        Problem::Memory
     }
 }
 
 impl From<EncodeError> for Problem {
     fn from(e: EncodeError) -> Problem {
-        let wanted = match e {
-            EncodeError::Memory => Wanted::Memory,
-            EncodeError::TooMany => Wanted::FewerRows,
-        };
-        Problem { wanted, word: 0 }
+        match e {
+            EncodeError::Memory => Problem::Memory,
+            EncodeError::TooMany => Problem::TooMany,
+        }
     }
 }
 
@@ -85,8 +100,6 @@ impl From<EncodeError> for ListingError<'_> {
 impl fmt::Display for Wanted {
     fn fmt<W: fmt::Write>(&self, f: &mut fmt::Formatter<W>) -> fmt::Result {
         f.write_str(match *self {
-            Wanted::Memory => "more memory",
-            Wanted::FewerRows => "fewer rows",
             Wanted::Item => "an item",
             Wanted::Number => "a number",
             Wanted::BlockKind => "a block kind",

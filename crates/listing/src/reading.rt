@@ -1,20 +1,21 @@
 // A listing, read line by line.
 use crate::error::{ListingError, Problem, Wanted};
-use crate::fields::{end, find_parts, kind, number, numbers, problem};
-use crate::rows::{block_row, identifier_row, instruction_row, scope_row};
+use crate::fields::{end, find_parts, kind, number};
+use crate::rows::{identifier_row, row};
 use react_compiler_hir::{BlockKind, BlockRow, InstructionKind, InstructionRow, TerminalKind};
 use record_encoding::{Listing, count};
 use std::alloc::Global;
+use std::ops::Range;
 
 // A block whose terminal is still to come.
-#[derive(Clone, Copy)]
+#[derive(Clone, Copy, Debug)]
 struct OpenBlock {
     kind: u32,
     first_instruction: u32,
 }
 
 // Where the list of an instruction or of a terminal begins, and how long its two parts are.
-#[derive(Clone, Copy)]
+#[derive(Clone, Copy, Debug)]
 struct List {
     start: u32,
     first: u32,
@@ -29,12 +30,13 @@ struct Reader {
     open: Option<OpenBlock>,
 }
 
-// Appends the numbers from one place of a line up to another, and answers how many there are.
-fn push_words(all: &mut Vec<u32>, words: &[&str], from: usize, to: usize) -> Result<u32, Problem> {
-    for at in from..to {
+// Appends the numbers at these places of a line, and answers how many there are.
+fn push_words(all: &mut Vec<u32>, words: &[&str], places: Range<usize>) -> Result<u32, Problem> {
+    let length = places.len();
+    for at in places {
         all.push(number(words, at)?)?;
     }
-    Ok(count(to.saturating_sub(from))?)
+    Ok(count(length)?)
 }
 
 // Appends the two parts of a list.
@@ -46,45 +48,10 @@ fn push_list(
     second: &str,
 ) -> Result<List, Problem> {
     let parts = find_parts(words, at, first, second)?;
-    let start = count(all.len())?;
-    let first = push_words(all, words, parts.first, parts.cut)?;
-    let second = push_words(all, words, parts.cut.saturating_add(1), words.len())?;
     Ok(List {
-        start,
-        first,
-        second,
-    })
-}
-
-// The instruction of a line, its list pushed.
-fn instruction_of(heap: Global, words: &[&str], list: List) -> Result<InstructionRow, Problem> {
-    Ok(InstructionRow {
-        number: number(words, 1)?,
-        kind: kind::<InstructionKind>(heap, words, 2)?,
-        lvalue: number(words, 3)?,
-        list_start: list.start,
-        target_count: list.first,
-        read_count: list.second,
-    })
-}
-
-// The block that the terminal of a line closes, with so many instructions in all, its list pushed.
-fn block_of(
-    heap: Global,
-    words: &[&str],
-    open: OpenBlock,
-    rows: u32,
-    list: List,
-) -> Result<BlockRow, Problem> {
-    Ok(BlockRow {
-        kind: open.kind,
-        first_instruction: open.first_instruction,
-        instruction_count: rows.saturating_sub(open.first_instruction),
-        terminal_number: number(words, 1)?,
-        terminal_kind: kind::<TerminalKind>(heap, words, 2)?,
-        list_start: list.start,
-        operand_count: list.first,
-        successor_count: list.second,
+        start: count(all.len())?,
+        first: push_words(all, words, parts.first)?,
+        second: push_words(all, words, parts.second)?,
     })
 }
 
@@ -93,21 +60,21 @@ impl Reader {
     fn item(&mut self, words: &[&str]) -> Result<(), Problem> {
         match words {
             [] => Ok(()),
-            ["scope", ..] => Ok(self.listing.scopes.push(scope_row(words)?)?),
+            ["scope", ..] => Ok(self.listing.scopes.push(row(words)?)?),
             ["identifier", ..] => Ok(self.listing.identifiers.push(identifier_row(words)?)?),
             ["block", ..] => self.block(words),
             ["instruction", ..] => self.instruction(words),
             ["terminal", ..] => self.terminal(words),
-            ["block-row", ..] => Ok(self.listing.blocks.push(block_row(words)?)?),
-            ["instruction-row", ..] => Ok(self.listing.instructions.push(instruction_row(words)?)?),
-            ["word", ..] => self.word(words),
-            _ => Err(problem(Wanted::Item, 0)),
+            ["block-row", ..] => Ok(self.listing.blocks.push(row(words)?)?),
+            ["instruction-row", ..] => Ok(self.listing.instructions.push(row(words)?)?),
+            ["word", ..] => Ok(self.listing.words.push(row(words)?)?),
+            _ => Err(Wanted::Item.at(0)),
         }
     }
 
     fn block(&mut self, words: &[&str]) -> Result<(), Problem> {
         if self.open.is_some() {
-            return Err(problem(Wanted::Terminal, 0));
+            return Err(Wanted::Terminal.at(0));
         }
         let kind = kind::<BlockKind>(self.heap, words, 1)?;
         end(words, 2)?;
@@ -121,53 +88,44 @@ impl Reader {
 
     fn instruction(&mut self, words: &[&str]) -> Result<(), Problem> {
         if self.open.is_none() {
-            return Err(problem(Wanted::OpenBlock, 0));
+            return Err(Wanted::OpenBlock.at(0));
         }
         let list = push_list(&mut self.listing.words, words, 4, "targets", "reads")?;
-        let row = instruction_of(self.heap, words, list)?;
+        let row = InstructionRow {
+            number: number(words, 1)?,
+            kind: kind::<InstructionKind>(self.heap, words, 2)?,
+            lvalue: number(words, 3)?,
+            list_start: list.start,
+            target_count: list.first,
+            read_count: list.second,
+        };
         Ok(self.listing.instructions.push(row)?)
     }
 
+    // It closes the open block, which has the instructions that were read since.
     fn terminal(&mut self, words: &[&str]) -> Result<(), Problem> {
-        let Some(open) = self.open.take() else {
-            return Err(problem(Wanted::OpenBlock, 0));
-        };
+        let open = self.open.take().ok_or(Wanted::OpenBlock.at(0))?;
         let list = push_list(&mut self.listing.words, words, 3, "operands", "successors")?;
         let rows = count(self.listing.instructions.len())?;
-        let row = block_of(self.heap, words, open, rows, list)?;
+        let row = BlockRow {
+            kind: open.kind,
+            first_instruction: open.first_instruction,
+            instruction_count: rows.saturating_sub(open.first_instruction),
+            terminal_number: number(words, 1)?,
+            terminal_kind: kind::<TerminalKind>(self.heap, words, 2)?,
+            list_start: list.start,
+            operand_count: list.first,
+            successor_count: list.second,
+        };
         Ok(self.listing.blocks.push(row)?)
-    }
-
-    fn word(&mut self, words: &[&str]) -> Result<(), Problem> {
-        let [word] = numbers::<1>(words, 1)?;
-        end(words, 2)?;
-        Ok(self.listing.words.push(word)?)
     }
 
     // One line, as it stands in the text.
     fn line<'t>(&mut self, number: usize, text: &'t str) -> Result<(), ListingError<'t>> {
-        let code = match text.split_once('#') {
-            Some((code, _)) => code,
-            None => text,
-        };
+        let code = text.split_once('#').map_or(text, |(code, _)| code);
         let words: Vec<&'t str> = code.split_whitespace().collect(self.heap)?;
-        match self.item(words.as_slice()) {
-            Ok(()) => Ok(()),
-            Err(problem) => Err(located(problem, number, words.as_slice())),
-        }
-    }
-}
-
-// A problem, with the line that has it.
-fn located<'t>(problem: Problem, number: usize, words: &[&'t str]) -> ListingError<'t> {
-    match problem.wanted {
-        Wanted::Memory => ListingError::Memory,
-        Wanted::FewerRows => ListingError::TooMany,
-        wanted => ListingError::Line {
-            number,
-            wanted,
-            found: words.get(problem.word).copied(),
-        },
+        self.item(words.as_slice())
+            .map_err(|problem| problem.of_line(number, words.as_slice()))
     }
 }
 
@@ -178,13 +136,11 @@ pub fn parse(heap: Global, text: &str) -> Result<Listing, ListingError<'_>> {
         listing: Listing::new(heap),
         open: None,
     };
-    let mut number = 0usize;
-    for line in text.lines() {
-        number = number.saturating_add(1);
+    for (number, line) in (1..).zip(text.lines()) {
         reader.line(number, line)?;
     }
     if reader.open.is_some() {
-        return Err(located(problem(Wanted::Terminal, 0), number, &[]));
+        return Err(Wanted::Terminal.at(0).of_line(text.lines().count(), &[]));
     }
     Ok(reader.listing)
 }

@@ -6,15 +6,15 @@ use std::io;
 // Every prefix, the record itself at last.
 pub fn prefixes(rt: &HostRuntime, record: &[u8]) -> io::Result<()> {
     for n in 0..=record.len() {
-        report(rt, Name::Numbered("prefix", n), &record[0..n])?;
+        report(rt, Name::Numbered("prefix", n), &record[..n])?;
     }
     Ok(())
 }
 
 // Each byte in turn raised by 1.
 pub fn bytes(rt: &HostRuntime, record: &[u8]) -> io::Result<()> {
-    for i in 0..record.len() {
-        let changed = with_byte(rt.alloc(), record, i, record[i].wrapping_add(1))?;
+    for (i, byte) in record.iter().enumerate() {
+        let changed = with_byte(rt.alloc(), record, i, byte.wrapping_add(1))?;
         report(rt, Name::Numbered("byte", i), changed.as_slice())?;
     }
     Ok(())

@@ -1,78 +1,78 @@
 // Loading a record into tables of several lengths, whose rows are marked before.
 use crate::checksum::Checksum;
+use hir_faults::Fault;
 use hir_record::{Counts, load};
-use react_compiler_hir::{IdentifierRow, MutableRange, ScopeRow};
+use react_compiler_hir::{IdentifierRow, Row, ScopeRow};
 use std::alloc::{AllocError, Global};
 use std::fmt;
 
-const MARKED: MutableRange = MutableRange {
-    id: 2_863_311_530,
-    start: 2_863_311_530,
-    end: 2_863_311_530,
-};
+// Each word of a marked row.
+const MARK: u32 = 2_863_311_530;
 
-const MARKED_SCOPE: ScopeRow = ScopeRow { range: MARKED };
-
-const MARKED_IDENTIFIER: IdentifierRow = IdentifierRow {
-    mutable_range: MARKED,
-    scope: 2_863_311_530,
-    primitive: 2_863_311_530,
-};
-
-// What a load answered and left.
-#[derive(Clone, Copy)]
-pub enum Loaded {
-    // There is no table as short as that.
-    Skipped,
-    // The counts answered and all rows of both tables, summed.
-    Filled(Checksum),
-    // The fault's number, and whether every row is as it was.
-    Refused { number: u32, kept: bool },
+// A load that was refused, and whether every row is as it was.
+#[derive(Clone, Copy, Debug, PartialEq, Eq)]
+pub struct Refusal {
+    fault: Fault,
+    kept: bool,
 }
+
+// What a load answered and left: the counts and all rows of both tables, summed, or the refusal.
+// Nothing where there is no table as short as that.
+#[derive(Clone, Copy, Debug, PartialEq, Eq)]
+pub struct Loaded(Option<Result<Checksum, Refusal>>);
 
 impl fmt::Display for Loaded {
     fn fmt<W: fmt::Write>(&self, f: &mut fmt::Formatter<W>) -> fmt::Result {
-        match *self {
-            Loaded::Skipped => f.write_str("-"),
-            Loaded::Filled(sum) => write!(f, "ok:{sum}"),
-            Loaded::Refused { number, kept } => {
+        match self.0 {
+            None => f.write_str("-"),
+            Some(Ok(sum)) => write!(f, "ok:{sum}"),
+            Some(Err(Refusal { fault, kept })) => {
                 let rows = if kept { "kept" } else { "changed" };
-                write!(f, "{number}:{rows}")
+                write!(f, "{}:{rows}", fault.number())
             }
         }
     }
 }
 
-fn add_rows(sum: &mut Checksum, scopes: &[ScopeRow], identifiers: &[IdentifierRow]) {
-    sum.add_scopes(scopes);
-    sum.add_identifiers(identifiers);
+fn add_tables(sum: &mut Checksum, scopes: &[ScopeRow], identifiers: &[IdentifierRow]) {
+    sum.add_rows(scopes.iter().copied());
+    sum.add_rows(identifiers.iter().copied());
 }
 
 fn sum_of(scopes: &[ScopeRow], identifiers: &[IdentifierRow]) -> Checksum {
     let mut sum = Checksum::new();
-    add_rows(&mut sum, scopes, identifiers);
+    add_tables(&mut sum, scopes, identifiers);
     sum
 }
 
 fn add_counts(sum: &mut Checksum, counts: Counts) {
-    sum.add_all(&[counts.blocks, counts.instructions, counts.words]);
-    sum.add_all(&[counts.scopes, counts.identifiers]);
+    sum.add_words(&[
+        counts.blocks,
+        counts.instructions,
+        counts.words,
+        counts.scopes,
+        counts.identifiers,
+    ]);
 }
 
 // Loads into two tables that are given, and looks at them afterwards.
-fn load_rows(bytes: &[u8], scopes: &mut [ScopeRow], identifiers: &mut [IdentifierRow]) -> Loaded {
+fn load_rows(
+    bytes: &[u8],
+    scopes: &mut [ScopeRow],
+    identifiers: &mut [IdentifierRow],
+) -> Result<Checksum, Refusal> {
     let before = sum_of(scopes, identifiers);
     match load(bytes, scopes, identifiers) {
         Ok(counts) => {
             let mut sum = Checksum::new();
             add_counts(&mut sum, counts);
-            add_rows(&mut sum, scopes, identifiers);
-            Loaded::Filled(sum)
+            add_tables(&mut sum, scopes, identifiers);
+            Ok(sum)
         }
-        Err(e) => Loaded::Refused {
-            number: e.fault.number(),
-            kept: sum_of(scopes, identifiers).value == before.value,
-        },
+        Err(e) => Err(Refusal {
+            fault: e.fault,
+            kept: sum_of(scopes, identifiers) == before,
+        }),
     }
 }
 
@@ -84,13 +84,15 @@ pub fn load_marked(
     identifiers: Option<u32>,
 ) -> Result<Loaded, AllocError> {
     let (Some(scopes), Some(identifiers)) = (scopes, identifiers) else {
-        return Ok(Loaded::Skipped);
+        return Ok(Loaded(None));
     };
-    let mut scope_rows = vec![in heap; MARKED_SCOPE; scopes as usize]?;
-    let mut identifier_rows = vec![in heap; MARKED_IDENTIFIER; identifiers as usize]?;
-    Ok(load_rows(
+    let scope = ScopeRow::from_words(&[MARK; 3]);
+    let identifier = IdentifierRow::from_words(&[MARK; 5]);
+    let mut scope_rows = vec![in heap; scope; scopes as usize]?;
+    let mut identifier_rows = vec![in heap; identifier; identifiers as usize]?;
+    Ok(Loaded(Some(load_rows(
         bytes,
         scope_rows.as_mut_slice(),
         identifier_rows.as_mut_slice(),
-    ))
+    ))))
 }

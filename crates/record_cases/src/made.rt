@@ -3,7 +3,7 @@ use std::alloc::{AllocError, Global};
 use std::fmt;
 
 // The name of a case.
-#[derive(Clone, Copy)]
+#[derive(Clone, Copy, Debug)]
 pub enum Name {
     Plain(&'static str),
     Numbered(&'static str, usize),

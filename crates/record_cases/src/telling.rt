@@ -4,7 +4,7 @@ use crate::checksum::Checksum;
 use react_compiler_hir::Source;
 use std::fmt;
 
-#[derive(Clone, Copy)]
+#[derive(Clone, Copy, Debug, PartialEq, Eq)]
 pub struct Told {
     blocks: usize,
     instructions: usize,
@@ -13,28 +13,12 @@ pub struct Told {
     absent: bool,
 }
 
-fn add_blocks<S: Source>(sum: &mut Checksum, source: &S) {
-    for i in 0..source.block_count() {
-        if let Some(row) = source.block(i) {
-            sum.add_block(row);
-        }
-    }
-}
-
-fn add_instructions<S: Source>(sum: &mut Checksum, source: &S) {
-    for i in 0..source.instruction_count() {
-        if let Some(row) = source.instruction(i) {
-            sum.add_instruction(row);
-        }
-    }
-}
-
-fn add_words<S: Source>(sum: &mut Checksum, source: &S) {
-    for i in 0..source.word_count() {
-        if let Some(word) = source.word(i) {
-            sum.add(word);
-        }
-    }
+fn sum_of<S: Source>(source: &S) -> Checksum {
+    let mut sum = Checksum::new();
+    sum.add_rows((0..source.block_count()).map_while(|i| source.block(i)));
+    sum.add_rows((0..source.instruction_count()).map_while(|i| source.instruction(i)));
+    sum.add_rows((0..source.word_count()).map_while(|i| source.word(i)));
+    sum
 }
 
 // Whether all three lists are absent so far behind their lengths.
@@ -51,26 +35,24 @@ fn absent_at<S: Source>(source: &S, past: usize) -> bool {
 }
 
 pub fn tell<S: Source>(source: &S) -> Told {
-    let mut sum = Checksum::new();
-    add_blocks(&mut sum, source);
-    add_instructions(&mut sum, source);
-    add_words(&mut sum, source);
     Told {
         blocks: source.block_count(),
         instructions: source.instruction_count(),
         words: source.word_count(),
-        sum,
-        absent: absent_at(source, 0) && absent_at(source, 1) && absent_at(source, usize::MAX),
+        sum: sum_of(source),
+        absent: [0, 1, usize::MAX]
+            .iter()
+            .all(|past| absent_at(source, *past)),
     }
 }
 
 impl fmt::Display for Told {
     fn fmt<W: fmt::Write>(&self, f: &mut fmt::Formatter<W>) -> fmt::Result {
-        let blocks = self.blocks;
-        let instructions = self.instructions;
-        let words = self.words;
-        let sum = self.sum;
         let past = if self.absent { "absent" } else { "present" };
-        write!(f, "{blocks} {instructions} {words} {sum} {past}")
+        write!(
+            f,
+            "{} {} {} {} {past}",
+            self.blocks, self.instructions, self.words, self.sum
+        )
     }
 }

@@ -4,8 +4,10 @@
 mod columns;
 mod inspection;
 mod options;
+mod or_dash;
 mod page;
 mod plain;
+mod printer;
 mod reporting;
 
 pub use reporting::report;

@@ -1,5 +1,7 @@
 // What the command line asks for.
-use std::alloc::{AllocError, Global};
+use std::alloc::{AllocError, AllocFailed, Global};
+use std::error::Error;
+use std::fmt;
 
 pub const HELP: &str = "usage: scopes [--inspect] [--plain] FILE...
        scopes --help
@@ -26,20 +28,20 @@ means, the layer that gave it and the place. The exit status is 0 if all were ac
 ";
 
 // How the facts are laid out.
-#[derive(Clone, Copy, PartialEq, Eq)]
+#[derive(Clone, Copy, Debug, PartialEq, Eq)]
 pub enum Layout {
     Columns,
     Plain,
 }
 
 // What is to be printed of each file.
-#[derive(Clone, Copy, PartialEq, Eq)]
+#[derive(Clone, Copy, Debug, PartialEq, Eq)]
 pub enum Task {
     Show,
     Inspect,
 }
 
-#[derive(Drop)]
+#[derive(Debug, Drop)]
 pub enum Order {
     Help,
     Run {
@@ -47,30 +49,58 @@ pub enum Order {
         layout: Layout,
         files: Vec<String>,
     },
-    Misuse(String),
 }
 
+// Why words are no order.
+#[derive(Debug, Drop)]
+pub enum OrderError {
+    UnknownOption(String),
+    NoFile,
+    Memory(AllocError),
+}
+
+impl From<AllocError> for OrderError {
+    fn from(e: AllocError) -> OrderError {
+        OrderError::Memory(e)
+    }
+}
+
+impl<T: Drop> From<AllocFailed<T>> for OrderError {
+    fn from(e: AllocFailed<T>) -> OrderError {
+        OrderError::Memory(e.into())
+    }
+}
+
+impl fmt::Display for OrderError {
+    fn fmt<W: fmt::Write>(&self, f: &mut fmt::Formatter<W>) -> fmt::Result {
+        match self {
+            OrderError::UnknownOption(word) => write!(f, "there is no option '{word}'"),
+            OrderError::NoFile => f.write_str("no file is named"),
+            OrderError::Memory(e) => write!(f, "{e}"),
+        }
+    }
+}
+
+impl Error for OrderError {}
+
 // Takes the words after the program's name.
-pub fn order_of(heap: Global, words: &Vec<String>) -> Result<Order, AllocError> {
+pub fn order_of(heap: Global, words: &[String]) -> Result<Order, OrderError> {
     let mut task = Task::Show;
     let mut layout = Layout::Columns;
     let mut files = Vec::new(heap);
-    for word in words.iter() {
+    for word in words {
         match word.as_str() {
             "--help" | "-h" => return Ok(Order::Help),
             "--plain" => layout = Layout::Plain,
             "--inspect" => task = Task::Inspect,
-            "-" => files.push(word.clone()?)?,
-            _ => {
-                if word.as_str().starts_with('-') {
-                    return Ok(Order::Misuse(format!(in heap; "there is no option '{word}'")?));
-                }
-                files.push(word.clone()?)?;
+            option if option != "-" && option.starts_with('-') => {
+                return Err(OrderError::UnknownOption(word.clone()?));
             }
+            _ => files.push(word.clone()?)?,
         }
     }
     if files.is_empty() {
-        return Ok(Order::Misuse(String::from_str(heap, "no file is named")?));
+        return Err(OrderError::NoFile);
     }
     Ok(Order::Run {
         task,

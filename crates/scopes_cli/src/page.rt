@@ -1,7 +1,7 @@
 // A page: a record's bytes, checked and loaded.
 use hir_faults::{Envelope, Fault};
 use hir_record::{Counts, check, load};
-use react_compiler_hir::{IdentifierRow, MutableRange, ScopeRow};
+use react_compiler_hir::{IdentifierRow, Row, ScopeRow};
 use std::alloc::{AllocError, Global};
 
 #[derive(Drop)]
@@ -12,7 +12,7 @@ pub struct Page {
 }
 
 // Why there is no page.
-#[derive(Drop)]
+#[derive(Debug, Drop)]
 pub enum PageError {
     Refused(Envelope<Fault>),
     NoMemory,
@@ -30,31 +30,13 @@ impl From<AllocError> for PageError {
     }
 }
 
-const NO_RANGE: MutableRange = MutableRange {
-    id: 0,
-    start: 0,
-    end: 0,
-};
-
-const NO_SCOPE: ScopeRow = ScopeRow { range: NO_RANGE };
-
-const NO_IDENTIFIER: IdentifierRow = IdentifierRow {
-    mutable_range: NO_RANGE,
-    scope: IdentifierRow::NO_SCOPE,
-    primitive: 0,
-};
-
-// The counts, with the refusal as one of any layer.
-fn counts_of(bytes: &[u8]) -> Result<Counts, Envelope<Fault>> {
-    let counts = check(bytes)?;
-    Ok(counts)
-}
-
-// Loads a record into tables of just the rows that it counts.
+// Loads a record into tables of just the rows that it counts, which are all 0 before.
 pub fn page_of(heap: Global, bytes: &[u8]) -> Result<Page, PageError> {
-    let counts = counts_of(bytes)?;
-    let mut scopes = vec![in heap; NO_SCOPE; counts.scopes as usize]?;
-    let mut identifiers = vec![in heap; NO_IDENTIFIER; counts.identifiers as usize]?;
+    let counts = check(bytes).map_err(Envelope::<Fault>::from)?;
+    let scope = ScopeRow::from_words(&[0; 3]);
+    let identifier = IdentifierRow::from_words(&[0; 5]);
+    let mut scopes = vec![in heap; scope; counts.scopes as usize]?;
+    let mut identifiers = vec![in heap; identifier; counts.identifiers as usize]?;
     let counts = load(bytes, scopes.as_mut_slice(), identifiers.as_mut_slice())?;
     Ok(Page {
         counts,

@@ -1,120 +1,95 @@
 // One fact to a line.
+ghost use Rattle.std.specs.Prelude.{◌*◌, ◌^◌, ◌<◌};
+ghost use Rattle.std.specs.Iterator.{IsFinite};
+
+use crate::or_dash::OrDash;
 use crate::page::Page;
-use react_compiler_hir::{BlockRow, IdentifierRow, InstructionRow, Source};
-use std::io;
+use crate::printer::Printer;
+use fault_text::PlainFault;
+use hir_faults::{Envelope, Fault};
+use react_compiler_hir::{Row, Source};
+use std::{fmt, io};
 
-// A line's first word and position, and then its numbers.
-fn print_row(rt: &HostRuntime, name: &str, position: usize, numbers: &[u32]) -> io::Result<()> {
-    print!(rt; "{name} {position}")?;
-    print_numbers(rt, numbers)?;
-    rt.print("\n")
+#[derive(Clone, Copy)]
+pub struct Plain<'a> {
+    pub rt: &'a HostRuntime,
 }
 
-fn print_numbers(rt: &HostRuntime, numbers: &[u32]) -> io::Result<()> {
-    for number in numbers {
-        print!(rt; " {number}")?;
-    }
-    Ok(())
-}
+// Numbers, each behind a space.
+#[derive(Clone, Copy, Debug)]
+struct Numbers<'a>(&'a [u32]);
 
-// A number that may be absent.
-fn print_some(rt: &HostRuntime, number: Option<u32>) -> io::Result<()> {
-    match number {
-        Some(number) => print!(rt; " {number}"),
-        None => rt.print(" -"),
-    }
-}
-
-pub fn print_page<S: Source>(rt: &HostRuntime, source: &S, page: &Page) -> io::Result<()> {
-    let c = page.counts;
-    rt.print("counts")?;
-    print_numbers(
-        rt,
-        &[c.blocks, c.instructions, c.words, c.scopes, c.identifiers],
-    )?;
-    rt.print("\n")?;
-    print_blocks(rt, source)?;
-    print_instructions(rt, source)?;
-    print_words(rt, source)?;
-    print_scopes(rt, page)?;
-    print_identifiers(rt, page)
-}
-
-fn block_words(row: BlockRow) -> [u32; 8] {
-    [
-        row.kind,
-        row.first_instruction,
-        row.instruction_count,
-        row.terminal_kind,
-        row.terminal_number,
-        row.list_start,
-        row.operand_count,
-        row.successor_count,
-    ]
-}
-
-fn instruction_words(row: InstructionRow) -> [u32; 6] {
-    [
-        row.number,
-        row.kind,
-        row.lvalue,
-        row.list_start,
-        row.target_count,
-        row.read_count,
-    ]
-}
-
-fn print_blocks<S: Source>(rt: &HostRuntime, source: &S) -> io::Result<()> {
-    for i in 0..source.block_count() {
-        if let Some(row) = source.block(i) {
-            print_row(rt, "block", i, &block_words(row))?;
+impl fmt::Display for Numbers<'_> {
+    fn fmt<W: fmt::Write>(&self, f: &mut fmt::Formatter<W>) -> fmt::Result {
+        for number in self.0 {
+            write!(f, " {number}")?;
         }
+        Ok(())
     }
-    Ok(())
 }
 
-fn print_instructions<S: Source>(rt: &HostRuntime, source: &S) -> io::Result<()> {
-    for i in 0..source.instruction_count() {
-        if let Some(row) = source.instruction(i) {
-            print_row(rt, "instruction", i, &instruction_words(row))?;
+impl Plain<'_> {
+    // A line for each of some rows.
+    fn rows<const N: usize, R: Row<N>, I: Iterator<Item = R> + Drop>(
+        &self,
+        name: &str,
+        rows: I,
+    ) -> io::Result<()>
+        requires size { N * 4 < 2 ^ 63 }
+        requires can { I.can_next rows }
+        requires ends { IsFinite (I.remaining rows) }
+    {
+        for (i, row) in (0usize..).zip(rows) {
+            println!(self.rt; "{name} {i}{}", Numbers(&row.words()))?;
         }
+        Ok(())
     }
-    Ok(())
-}
 
-fn print_words<S: Source>(rt: &HostRuntime, source: &S) -> io::Result<()> {
-    for i in 0..source.word_count() {
-        if let Some(word) = source.word(i) {
-            print_row(rt, "word", i, &[word])?;
+    fn identifiers(&self, page: &Page) -> io::Result<()> {
+        for (i, row) in page.identifiers.iter().enumerate() {
+            let range = row.mutable_range;
+            let scope = OrDash(row.scope_position());
+            println!(self.rt;
+                "identifier {i} {} {} {} {scope} {}",
+                range.id, range.start, range.end, row.primitive
+            )?;
         }
+        Ok(())
     }
-    Ok(())
 }
 
-fn print_scopes(rt: &HostRuntime, page: &Page) -> io::Result<()> {
-    for (i, row) in page.scopes.iter().enumerate() {
-        print_row(
-            rt,
-            "scope",
-            i,
-            &[row.range.id, row.range.start, row.range.end],
+impl Printer for Plain<'_> {
+    fn begin(&self, name: &str) -> io::Result<()> {
+        println!(self.rt; "file {name}")
+    }
+
+    fn page<S: Source>(&self, _name: &str, source: &S, page: &Page) -> io::Result<()> {
+        let c = page.counts;
+        println!(self.rt;
+            "counts{}",
+            Numbers(&[c.blocks, c.instructions, c.words, c.scopes, c.identifiers])
         )?;
+        self.rows(
+            "block",
+            (0..source.block_count()).map_while(|i| source.block(i)),
+        )?;
+        self.rows(
+            "instruction",
+            (0..source.instruction_count()).map_while(|i| source.instruction(i)),
+        )?;
+        self.rows(
+            "word",
+            (0..source.word_count()).map_while(|i| source.word(i)),
+        )?;
+        self.rows("scope", page.scopes.iter().copied())?;
+        self.identifiers(page)
     }
-    Ok(())
-}
 
-fn print_identifiers(rt: &HostRuntime, page: &Page) -> io::Result<()> {
-    for (i, row) in page.identifiers.iter().enumerate() {
-        print_identifier(rt, i, *row)?;
+    fn sound(&self, _name: &str, numbers: u32) -> io::Result<()> {
+        println!(self.rt; "sound {numbers}")
     }
-    Ok(())
-}
 
-fn print_identifier(rt: &HostRuntime, i: usize, row: IdentifierRow) -> io::Result<()> {
-    let range = row.mutable_range;
-    print!(rt; "identifier {i}")?;
-    print_numbers(rt, &[range.id, range.start, range.end])?;
-    print_some(rt, row.scope_position())?;
-    print_numbers(rt, &[row.primitive])?;
-    rt.print("\n")
+    fn refusal(&self, _name: &str, e: Envelope<Fault>) -> io::Result<()> {
+        println!(self.rt; "{}", PlainFault(e))
+    }
 }
