@@ -1,3 +1,4 @@
+pub mod Parts
 pub mod Fields
 pub mod FromFn
 pub mod Rows

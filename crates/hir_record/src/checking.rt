@@ -8,9 +8,6 @@ use hir_faults::{Envelope, RecordFault};
 
 const VERSION: u16 = 1;
 
-// The counts stand after the mark and the version.
-const COUNTS_AT: usize = 5;
-
 // The tests of the counts, for a record of so many bytes.
 fn check_counts(counts: Counts, bytes: usize) -> Result<Counts, Envelope<RecordFault>>
     ensures { result ≡ counted bytes counts }
@@ -31,11 +28,11 @@ pub fn check(bytes: &[u8]) -> Result<Counts, Envelope<RecordFault>>
     if bytes.len() < BLOCKS_AT {
         return Err(Envelope::new(None, RecordFault::TooShort));
     }
-    let [b'H', b'I', b'R', high, low, ..] = bytes else {
+    let [b'H', b'I', b'R', high, low, rest @ ..] = bytes else {
         return Err(Envelope::new(None, RecordFault::NoMark));
     };
     if u16::from_be_bytes([*high, *low]) != VERSION {
         return Err(Envelope::new(None, RecordFault::UnknownVersion));
     }
-    check_counts(read_row(bytes, COUNTS_AT), bytes.len())
+    check_counts(read_row(rest, 0), bytes.len())
 }
