@@ -23,23 +23,11 @@ impl fmt::Display for Verdict {
     }
 }
 
-fn exactly_enough<S: Source>(source: &S, scopes: usize) -> Memory {
-    Memory::Merge {
-        words: source
-            .block_count()
-            .saturating_add(scopes)
-            .saturating_mul(8),
-        openings: scopes,
-        closings: scopes,
-        roots: scopes,
-    }
-}
-
 fn tested<S: Source>(source: &S, case: &Case, listing: &Listing) -> Verdict {
     let scopes = listing.scopes.as_slice();
     let memory = case
         .memory
-        .unwrap_or_else(|| exactly_enough(source, scopes.len()));
+        .unwrap_or_else(|| Memory::exactly_enough(source.block_count(), scopes.len()));
     Verdict(test_function(source, scopes, listing.identifiers.as_slice(), memory))
 }
 

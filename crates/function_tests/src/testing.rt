@@ -7,27 +7,20 @@ use crate::places::memory_fault;
 use crate::ranges::scopes_known;
 use crate::tested::Tested;
 use hir_faults::{Envelope, Fault, Reason};
-use react_compiler_hir::{IdentifierRow, ScopeRow, Source};
-
-const MOST_BLOCKS: usize = 1_024;
-
-const MOST_INSTRUCTIONS: usize = 16_384;
-
-const MOST_WORDS: usize = 65_536;
-
-const MOST_SCOPES: usize = 1_024;
-
-const MOST_IDENTIFIERS: usize = 16_384;
+use react_compiler_hir::{
+    IdentifierRow, MOST_BLOCKS, MOST_IDENTIFIERS, MOST_INSTRUCTIONS, MOST_SCOPES, MOST_WORDS,
+    ScopeRow, Source,
+};
 
 impl<S: Source> Tested<'_, S> {
     fn within_limits(&self) -> bool
         ensures { result ≡ within_limits (S.function self.now.source.now) (length self.now.scopes.now) (length self.now.identifiers.now) }
     {
-        self.source.block_count() <= MOST_BLOCKS
-            && self.source.instruction_count() <= MOST_INSTRUCTIONS
-            && self.source.word_count() <= MOST_WORDS
-            && self.scopes.len() <= MOST_SCOPES
-            && self.identifiers.len() <= MOST_IDENTIFIERS
+        self.source.block_count() <= MOST_BLOCKS as usize
+            && self.source.instruction_count() <= MOST_INSTRUCTIONS as usize
+            && self.source.word_count() <= MOST_WORDS as usize
+            && self.scopes.len() <= MOST_SCOPES as usize
+            && self.identifiers.len() <= MOST_IDENTIFIERS as usize
     }
 
     // The tests that look at no row of the function.

@@ -3,7 +3,10 @@ ghost use Rattle.std.specs.Prelude.{◌≡◌, ◌*◌, ◌^◌, ◌<◌, ◌≤
 ghost use Rattle.hir_record.specs.Format.{count_words, counts_of_words, over_limit, instructions_at, words_at, scopes_at, identifiers_at, record_length};
 
 use crate::bytes::WORD_BYTES;
-use react_compiler_hir::{BlockRow, IdentifierRow, InstructionRow, Row, ScopeRow};
+use react_compiler_hir::{
+    BlockRow, IdentifierRow, InstructionRow, MOST_BLOCKS, MOST_IDENTIFIERS, MOST_INSTRUCTIONS,
+    MOST_SCOPES, MOST_WORDS, Row, ScopeRow,
+};
 
 // The bytes of the mark, the version and the five counts; the blocks begin after them.
 pub const BLOCKS_AT: usize = 25;
@@ -26,15 +29,15 @@ pub struct Counts {
 }
 
 impl Counts {
-    pub const MOST_BLOCKS: u32 = 1_024;
+    pub const MOST_BLOCKS: u32 = MOST_BLOCKS;
 
-    pub const MOST_INSTRUCTIONS: u32 = 16_384;
+    pub const MOST_INSTRUCTIONS: u32 = MOST_INSTRUCTIONS;
 
-    pub const MOST_WORDS: u32 = 65_536;
+    pub const MOST_WORDS: u32 = MOST_WORDS;
 
-    pub const MOST_SCOPES: u32 = 1_024;
+    pub const MOST_SCOPES: u32 = MOST_SCOPES;
 
-    pub const MOST_IDENTIFIERS: u32 = 16_384;
+    pub const MOST_IDENTIFIERS: u32 = MOST_IDENTIFIERS;
 
     // Whether a count is over its limit.
     pub(crate) fn over_limit(&self) -> bool

@@ -2,12 +2,14 @@
 #![tactic(auto)]
 
 mod kinds;
+mod limits;
 mod row_words;
 mod rows;
 mod source;
 mod tables;
 
 pub use kinds::{BlockKind, InstructionKind, Kind, TerminalKind};
+pub use limits::{MOST_BLOCKS, MOST_IDENTIFIERS, MOST_INSTRUCTIONS, MOST_SCOPES, MOST_WORDS};
 pub use row_words::Row;
 pub use rows::{BlockRow, IdentifierRow, InstructionRow, MutableRange, ScopeRow};
 pub use source::{Source, TableSource};

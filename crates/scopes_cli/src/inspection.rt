@@ -6,14 +6,7 @@ use react_compiler_hir::Source;
 
 // How many numbers the function has, or the first fault.
 pub fn inspect<S: Source>(source: &S, page: &Page) -> Result<u32, Envelope<Fault>> {
-    let scopes = page.scopes.len();
-    let blocks = source.block_count();
-    let memory = Memory::Merge {
-        words: blocks.saturating_add(scopes).saturating_mul(8),
-        openings: scopes,
-        closings: scopes,
-        roots: scopes,
-    };
+    let memory = Memory::exactly_enough(source.block_count(), page.scopes.len());
     test_function(
         source,
         page.scopes.as_slice(),
