@@ -25,9 +25,10 @@ impl fmt::Display for Verdict {
 
 fn tested<S: Source>(source: &S, case: &Case, listing: &Listing) -> Verdict {
     let scopes = listing.scopes.as_slice();
-    let memory = case
-        .memory
-        .unwrap_or_else(|| Memory::exactly_enough(source.block_count(), scopes.len()));
+    let memory = case.memory.unwrap_or_else(|| Memory::exactly_enough(
+        source.block_count(),
+        scopes.len(),
+    ));
     Verdict(test_function(source, scopes, listing.identifiers.as_slice(), memory))
 }
 
