@@ -1,4 +1,7 @@
 // Why five lists make no record.
+ghost use Rattle.std.specs.Prelude.{◌≡◌};
+ghost use Rattle.record_encoding.specs.declared.error.EncodeError.TheVariants.{Memory};
+
 use std::alloc::AllocError;
 use std::error::Error;
 use std::fmt;
@@ -23,6 +26,8 @@ impl fmt::Display for EncodeError {
 impl Error for EncodeError {}
 
 impl From<AllocError> for EncodeError {
+    ghost from_gives = { λ x y. y ≡ Memory };
+
     fn from(_e: AllocError) -> EncodeError {
         EncodeError::Memory
     }
