@@ -30,7 +30,8 @@ struct Reader {
     open: Option<OpenBlock>,
 }
 
-// Appends the numbers at these places of a line, and answers how many there are.
+// Appends the numbers at these places of a line, and answers how many there are. The words are taken
+// by place and not as a slice, since a problem names the place.
 fn push_words(all: &mut Vec<u32>, words: &[&str], places: Range<usize>) -> Result<u32, Problem> {
     let length = places.len();
     for at in places {
