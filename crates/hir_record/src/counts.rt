@@ -1,5 +1,6 @@
 // How many rows and words a record has, and the limits on them.
 ghost use Rattle.std.specs.Prelude.{◌≡◌, ◌*◌, ◌^◌, ◌<◌, ◌≤◌, refl};
+ghost use Rattle.std.proofs.Common.{rules};
 ghost use Rattle.hir_record.specs.Format.{count_words, counts_of_words, over_limit, instructions_at, words_at, scopes_at, identifiers_at, record_length};
 
 use crate::bytes::WORD_BYTES;
@@ -11,9 +12,8 @@ use react_compiler_hir::{
 // The bytes of the mark, the version and the five counts; the blocks begin after them.
 pub const BLOCKS_AT: usize = 25;
 
-// How many bytes so many rows have. No row has more than eight words.
+// How many bytes so many rows have.
 fn bytes_of<const N: usize, R: Row<N>>(rows: u32) -> usize
-    requires { N ≤ 8 }
     ensures { result ≡ 4 * N * rows }
 {
     WORD_BYTES * N * rows as usize
@@ -96,6 +96,8 @@ impl Row<5> for Counts {
     ghost of_words = { counts_of_words };
 
     ghost back = { λ c. refl };
+
+    ghost few = { Prim.search rules };
 
     fn words(self) -> [u32; 5] {
         [

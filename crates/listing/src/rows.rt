@@ -1,14 +1,10 @@
 // Rows whose words stand on one line, behind the line's first word.
-ghost use Rattle.std.specs.Prelude.{◌*◌, ◌^◌, ◌<◌};
-
 use crate::error::Problem;
 use crate::fields::{end, number, numbers, scope};
 use react_compiler_hir::{IdentifierRow, Row};
 
-// A row by its words alone. An array has fewer than 2 ^ 63 bytes.
-pub fn row<const N: usize, R: Row<N>>(words: &[&str]) -> Result<R, Problem>
-    requires { N * 4 < 2 ^ 63 }
-{
+// A row by its words alone.
+pub fn row<const N: usize, R: Row<N>>(words: &[&str]) -> Result<R, Problem> {
     let all = numbers::<N>(words, 1)?;
     end(words, N + 1)?;
     Ok(R::from_words(&all))

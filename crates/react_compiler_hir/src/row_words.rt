@@ -1,5 +1,6 @@
 // Rows as their words, in the order in which records, listings and lines have them.
-ghost use Rattle.std.specs.Prelude.{◌≡◌, ℕ, List, [], ◌∷◌, length, refl};
+ghost use Rattle.std.specs.Prelude.{◌≡◌, ℕ, ◌≤◌, List, [], ◌∷◌, refl};
+ghost use Rattle.std.proofs.Common.{rules};
 ghost use Rattle.react_compiler_hir.specs.RowWords.{word_of, block_words, block_of, instruction_words, instruction_of, scope_words, scope_row_of, identifier_words, identifier_of};
 
 use crate::rows::{BlockRow, IdentifierRow, InstructionRow, MutableRange, ScopeRow};
@@ -18,6 +19,9 @@ pub trait Row<const N: usize>: Copy {
 
     // The words give the row back.
     ghost back: { (x : Self) → of_words (words x) ≡ x };
+
+    // There are few of them, so their bytes can be counted.
+    ghost few: { N ≤ 8 };
 }
 
 impl Row<1> for u32 {
@@ -26,6 +30,8 @@ impl Row<1> for u32 {
     ghost of_words = { word_of };
 
     ghost back = { λ w. refl };
+
+    ghost few = { Prim.search rules };
 
     fn words(self) -> [u32; 1] {
         [self]
@@ -43,6 +49,8 @@ impl Row<3> for ScopeRow {
     ghost of_words = { scope_row_of };
 
     ghost back = { λ s. refl };
+
+    ghost few = { Prim.search rules };
 
     fn words(self) -> [u32; 3] {
         [self.range.id, self.range.start, self.range.end]
@@ -62,6 +70,8 @@ impl Row<5> for IdentifierRow {
     ghost of_words = { identifier_of };
 
     ghost back = { λ i. refl };
+
+    ghost few = { Prim.search rules };
 
     fn words(self) -> [u32; 5] {
         let range = self.mutable_range;
@@ -84,6 +94,8 @@ impl Row<8> for BlockRow {
     ghost of_words = { block_of };
 
     ghost back = { λ b. refl };
+
+    ghost few = { Prim.search rules };
 
     fn words(self) -> [u32; 8] {
         [
@@ -128,6 +140,8 @@ impl Row<6> for InstructionRow {
     ghost of_words = { instruction_of };
 
     ghost back = { λ i. refl };
+
+    ghost few = { Prim.search rules };
 
     fn words(self) -> [u32; 6] {
         [

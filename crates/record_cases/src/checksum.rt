@@ -1,5 +1,4 @@
 // A sum of words that a change of any one of them changes.
-ghost use Rattle.std.specs.Prelude.{◌*◌, ◌^◌, ◌<◌};
 ghost use Rattle.std.specs.Iterator.{IsFinite};
 
 use react_compiler_hir::Row;
@@ -25,7 +24,6 @@ impl Checksum {
     }
 
     pub fn add_rows<const N: usize, R: Row<N>, I: Iterator<Item = R> + Drop>(&mut self, rows: I)
-        requires size { N * 4 < 2 ^ 63 }
         requires can { I.can_next rows }
         requires ends { IsFinite (I.remaining rows) }
     {

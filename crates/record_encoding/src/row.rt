@@ -1,5 +1,5 @@
 // Rows and words, each written as bytes with the high byte first.
-ghost use Rattle.std.specs.Prelude.{◌≡◌, ◌*◌, ◌^◌, ◌<◌, ◌++◌, OnOk};
+ghost use Rattle.std.specs.Prelude.{◌≡◌, ◌++◌, OnOk};
 ghost use Rattle.record_encoding.specs.Encoding.{bytes, rows};
 
 use react_compiler_hir::Row;
@@ -15,10 +15,8 @@ pub fn put_words(out: &mut Vec<u8>, words: &[u32]) -> Result<(), AllocError>
     Ok(())
 }
 
-// Appends rows to a record, one after another. The words of a row, as any array, have fewer than
-// 2 ^ 63 bytes.
+// Appends rows to a record, one after another.
 pub fn put_rows<const N: usize, R: Row<N>>(out: &mut Vec<u8>, items: &[R]) -> Result<(), AllocError>
-    requires { 4 * N < 2 ^ 63 }
     ensures { OnOk result (out.new.items ≡ out.old.items ++ rows R.words items.now) }
 {
     for item in items {

@@ -1,5 +1,4 @@
 // One fact to a line.
-ghost use Rattle.std.specs.Prelude.{◌*◌, ◌^◌, ◌<◌};
 ghost use Rattle.std.specs.Iterator.{IsFinite};
 
 use crate::or_dash::OrDash;
@@ -35,7 +34,6 @@ impl Plain<'_> {
         name: &str,
         rows: I,
     ) -> io::Result<()>
-        requires size { N * 4 < 2 ^ 63 }
         requires can { I.can_next rows }
         requires ends { IsFinite (I.remaining rows) }
     {
