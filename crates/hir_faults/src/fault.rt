@@ -120,6 +120,8 @@ impl<F: LayerFault> From<Envelope<F>> for Envelope<Fault> {
 }
 
 impl Layer {
+    // Its number in the table of layers, by a name and not by `From`, which would not say what the
+    // number is.
     pub fn number(self) -> u32
         ensures { result ≡ layer_number self }
     {

@@ -21,7 +21,7 @@ pub trait Kind: Copy + Debug + 'static {
     fn all() -> &'static [Self]
         ensures { result.now ≡ kinds };
 
-    // The kind with this number, if there is one.
+    // The kind with this number, if there is one. `TryFrom` would want an impl for each kind.
     fn from_number(number: u32) -> Option<Self>
         ensures { result ≡ slice_get kinds number }
     {

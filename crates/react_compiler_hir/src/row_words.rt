@@ -5,7 +5,8 @@ ghost use Rattle.react_compiler_hir.specs.RowWords.{word_of, block_words, block_
 
 use crate::rows::{BlockRow, IdentifierRow, InstructionRow, MutableRange, ScopeRow};
 
-// What is kept as a run of `N` words.
+// What is kept as a run of `N` words. Its ghost members name the words in the contracts above, where
+// `From` has only a relation.
 pub trait Row<const N: usize>: Copy {
     ghost words: { Self → List ℕ };
 

@@ -1,4 +1,5 @@
-// The rows of a function and of its two tables, as plain words.
+// The rows of a function and of its two tables, as plain words: a host lends rows of any words, so
+// kinds, scope and primitive word are numbers here, and what they mean is asked of them.
 ghost use Rattle.std.specs.Prelude.{◌≡◌};
 ghost use Rattle.react_compiler_hir.specs.Rows.{scope_of, primitive_is};
 

@@ -9,7 +9,8 @@ use crate::tables::row_at;
 // What a source means is a function: its block rows, its instruction rows and its words. An answer
 // at a position is the list's element there, and is absent exactly from the list's length on.
 pub trait Source {
-    // The number that tells this type of source from the others; function faults repeat it.
+    // The number that tells this type of source from the others; function faults repeat it. It is no
+    // enum, since a later crate may add a type of source.
     const KIND: u32;
 
     // The same number, for contracts: the check cannot tie a ghost constant to `KIND` in an impl
@@ -41,7 +42,7 @@ pub trait Source {
 }
 
 // A function in three tables of the host's, borrowed.
-#[derive(Clone, Copy)]
+#[derive(Clone, Copy, Debug)]
 pub struct TableSource<'a> {
     pub blocks: &'a [BlockRow],
     pub instructions: &'a [InstructionRow],

@@ -3,7 +3,7 @@ use crate::made::{Name, record_with, with_byte};
 use crate::report::report;
 use std::io;
 
-// Every prefix, the record itself at last.
+// Every prefix, the record itself at last. Each length is a case, and its number.
 pub fn prefixes(rt: &HostRuntime, record: &[u8]) -> io::Result<()> {
     for n in 0..=record.len() {
         report(rt, Name::Numbered("prefix", n), &record[..n])?;

@@ -36,18 +36,11 @@ fn put_counts(out: &mut Vec<u8>, counts: [u32; 5]) -> Result<(), AllocError> {
     Ok(())
 }
 
-fn put_body(out: &mut Vec<u8>, length: usize) -> Result<(), AllocError> {
-    for i in 0..length {
-        out.push((i % 251) as u8)?;
-    }
-    Ok(())
-}
-
 // A header with these counts, and so many bytes after it.
 pub fn record_with(heap: Global, counts: [u32; 5], body: usize) -> Result<Vec<u8>, AllocError> {
     let mut out = Vec::new(heap);
     out.extend_from_slice(b"HIR\x00\x01")?;
     put_counts(&mut out, counts)?;
-    put_body(&mut out, body)?;
+    out.extend((0..body).map(|i| (i % 251) as u8))?;
     Ok(out)
 }

@@ -7,7 +7,7 @@ use hir_record::{Counts, check, open};
 use std::{fmt, io};
 
 // What `check` said.
-#[derive(Clone, Copy)]
+#[derive(Clone, Copy, Debug, PartialEq, Eq)]
 struct Checked(Result<Counts, Envelope<RecordFault>>);
 
 // How many rows the tables of a refused record have.

@@ -15,7 +15,8 @@ pub struct Columns<'a> {
     pub rt: &'a HostRuntime,
 }
 
-// A part of a list, each word behind a space, with a ? for the first that the source does not tell.
+// A part of a list, each word behind a space, with a ? for the first that the source does not tell:
+// so it goes by positions, and not only by the words that are told.
 #[derive(Drop)]
 struct Part<'a, S> {
     source: &'a S,

@@ -4,7 +4,8 @@ ghost use Rattle.visitors.specs.Parts.{targets_of, reads_of, operands_of, succes
 
 use react_compiler_hir::{BlockRow, InstructionRow};
 
-// So many words of a function, from `skip` words after `start` on.
+// So many words of a function, from `skip` words after `start` on. It is told by positions, since a
+// source has no slice to lend.
 #[derive(Clone, Copy, Debug, PartialEq, Eq)]
 pub struct Part {
     pub start: u32,
@@ -12,6 +13,7 @@ pub struct Part {
     pub count: u32,
 }
 
+// A row's parts are four functions and no trait, since each names fields of its own row.
 pub fn targets(row: &InstructionRow) -> Part
     ensures { result ≡ targets_of row.now }
 {
