@@ -84,7 +84,7 @@ identifiers_at c = scopes_at c + 12 * c.scopes
 abbrev pub record_length : Counts → ℕ
 record_length c = identifiers_at c + 20 * c.identifiers
 
--- the rows at a place of the bytes; proofs/Fields.antt shows where each of their fields stands
+-- the rows at a place of the bytes; Fields says where each of their fields stands
 abbrev pub scope_at : List ℕ → ℕ → ScopeRow
 scope_at bs p = row_at scope_row_of 3 bs p
 

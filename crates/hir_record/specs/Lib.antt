@@ -1,4 +1,5 @@
 pub mod Format
+pub mod Fields
 pub mod Check
 pub mod Open
 pub mod Load

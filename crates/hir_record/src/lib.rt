@@ -2,6 +2,8 @@
 // An inner crate.
 #![tactic(auto)]
 
+ghost use Rattle.hir_record.specs.Fields.{FieldsFollow};
+
 mod bytes;
 mod checking;
 mod counts;
@@ -14,3 +16,8 @@ pub use counts::Counts;
 pub use loading::load;
 pub use opening::open;
 pub use source::RecordSource;
+
+// Where each field of a row stands in a record.
+pub fn fields_follow()
+    ensures { FieldsFollow }
+{}

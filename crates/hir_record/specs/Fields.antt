@@ -1,31 +1,23 @@
 -- Where each field of a row stands: the first word at the row's place, each further one four bytes on.
-use Rattle.std.proofs.Common.{◌≡◌, ℕ, ◌+◌, List, add-zero}
+use Rattle.std.specs.Prelude.{◌≡◌, ℕ, ◌+◌, List}
 use Rattle.hir_record.specs.Format.{word, counts_at, range_at, scope_at, identifier_at, block_at, instruction_at}
 
-module _ (bs : List ℕ) (p : ℕ) where
-  pub counts_fields : counts_at bs p ≡ record {
+pub record FieldsAt (bs : List ℕ) (p : ℕ) : Type 0 where
+  pub counts : counts_at bs p ≡ record {
     blocks = word bs p;
     instructions = word bs (p + 4);
     words = word bs (p + 8);
     scopes = word bs (p + 12);
     identifiers = word bs (p + 16);
   }
-  counts_fields = simp add-zero
-
-  pub range_fields : range_at bs p ≡ record { id = word bs p; start = word bs (p + 4); end = word bs (p + 8) }
-  range_fields = simp add-zero
-
-  pub scope_fields : scope_at bs p ≡ record { range = range_at bs p }
-  scope_fields = simp add-zero
-
-  pub identifier_fields : identifier_at bs p ≡ record {
+  pub range : range_at bs p ≡ record { id = word bs p; start = word bs (p + 4); end = word bs (p + 8) }
+  pub scope : scope_at bs p ≡ record { range = range_at bs p }
+  pub identifier : identifier_at bs p ≡ record {
     mutable_range = range_at bs p;
     scope = word bs (p + 12);
     primitive = word bs (p + 16);
   }
-  identifier_fields = simp add-zero
-
-  pub block_fields : block_at bs p ≡ record {
+  pub block : block_at bs p ≡ record {
     kind = word bs p;
     first_instruction = word bs (p + 4);
     instruction_count = word bs (p + 8);
@@ -35,9 +27,7 @@ module _ (bs : List ℕ) (p : ℕ) where
     operand_count = word bs (p + 24);
     successor_count = word bs (p + 28);
   }
-  block_fields = simp add-zero
-
-  pub instruction_fields : instruction_at bs p ≡ record {
+  pub instruction : instruction_at bs p ≡ record {
     number = word bs p;
     kind = word bs (p + 4);
     lvalue = word bs (p + 8);
@@ -45,4 +35,7 @@ module _ (bs : List ℕ) (p : ℕ) where
     target_count = word bs (p + 16);
     read_count = word bs (p + 20);
   }
-  instruction_fields = simp add-zero
+
+-- of every bytes, at every place
+abbrev pub FieldsFollow : Type 0
+FieldsFollow = (bs : List ℕ) (p : ℕ) → FieldsAt bs p
