@@ -50,6 +50,8 @@ impl<'a, E: Entry> Agenda<'a, E> {
     }
 }
 
+// That a call keeps the room and the lender is said of before and after, so it stands in each contract
+// and in no field.
 impl<E: Entry> Agenda<'_, E> {
     ghost use Rattle.agenda.specs.Entries.{entries};
 

@@ -15,7 +15,7 @@ pub struct ScopeEntry {
 }
 
 impl ScopeEntry {
-    // What cleared rows hold.
+    // What cleared rows hold; a constant, since tables are made of it.
     pub const ZERO: ScopeEntry = ScopeEntry {
         scope: 0,
         start: 0,
@@ -30,6 +30,7 @@ pub struct OpeningEntry {
     pub row: ScopeEntry,
 }
 
+// Two orders are two impls of one trait: which numbers go first, and which way, is all that they say.
 impl Entry for OpeningEntry {
     ghost compared = { λ x. opening_numbers x.row };
 

@@ -33,6 +33,8 @@ impl<'a> DisjointSet<'a> {
     }
 }
 
+// That a call keeps the length and the lender of the words is said of before and after, so it stands
+// in each contract and in no field.
 impl DisjointSet<'_> {
     // Makes every item its own root.
     pub fn reset(&mut self)

@@ -5,8 +5,7 @@ ghost use Rattle.hir_record.specs.Check.{checked, counted};
 use crate::bytes::read_row;
 use crate::counts::{BLOCKS_AT, Counts};
 use hir_faults::{Envelope, RecordFault};
-
-const VERSION: u16 = 1;
+use react_compiler_hir::RECORD_VERSION;
 
 // The tests of the counts, for a record of so many bytes.
 fn check_counts(counts: Counts, bytes: usize) -> Result<Counts, Envelope<RecordFault>>
@@ -31,7 +30,7 @@ pub fn check(bytes: &[u8]) -> Result<Counts, Envelope<RecordFault>>
     let [b'H', b'I', b'R', high, low, rest @ ..] = bytes else {
         return Err(Envelope::new(None, RecordFault::NoMark));
     };
-    if u16::from_be_bytes([*high, *low]) != VERSION {
+    if u16::from_be_bytes([*high, *low]) != RECORD_VERSION {
         return Err(Envelope::new(None, RecordFault::UnknownVersion));
     }
     check_counts(read_row(rest, 0), bytes.len())

@@ -29,6 +29,7 @@ pub struct Counts {
 }
 
 impl Counts {
+    // The limits under the names by which a record's users know them.
     pub const MOST_BLOCKS: u32 = MOST_BLOCKS;
 
     pub const MOST_INSTRUCTIONS: u32 = MOST_INSTRUCTIONS;
@@ -50,7 +51,8 @@ impl Counts {
             || self.identifiers > Self::MOST_IDENTIFIERS
     }
 
-    // Where the instructions begin, after the blocks.
+    // Where the instructions begin, after the blocks. Each bound below is another number, and spares
+    // its callers the sum.
     pub(crate) fn instructions_at(&self) -> usize
         ensures value { result ≡ instructions_at self.now }
         ensures bound { result < 2 ^ 40 }

@@ -42,6 +42,8 @@ pub enum BlockKind {
     Catch,
 }
 
+// Each kind stands in its enum and once more in such a list: an enum tells neither how many cases it
+// has nor which has a number.
 const BLOCK_KINDS: [BlockKind; 5] = [
     BlockKind::Block,
     BlockKind::Value,

@@ -1,3 +1,6 @@
+// The version of records that is read and written.
+pub const RECORD_VERSION: u16 = 1;
+
 // The most that a function and its two tables may have, in a record and before a pass.
 pub const MOST_BLOCKS: u32 = 1_024;
 

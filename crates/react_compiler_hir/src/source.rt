@@ -49,6 +49,7 @@ pub struct TableSource<'a> {
     pub words: &'a [u32],
 }
 
+// Six answers of one line each: the three tables have three types.
 impl Source for TableSource<'_> {
     const KIND: u32 = 2;
 

@@ -5,12 +5,11 @@ ghost use Rattle.record_encoding.specs.Listed.{counts_of, header_of, lists_of, r
 
 use crate::error::EncodeError;
 use crate::row::{put_rows, put_words};
-use react_compiler_hir::{BlockRow, IdentifierRow, InstructionRow, ScopeRow};
+use react_compiler_hir::{BlockRow, IdentifierRow, InstructionRow, RECORD_VERSION, ScopeRow};
 use std::alloc::{AllocError, Global};
 
+// A reader has the mark in a pattern, which takes no constant.
 const MARK: [u8; 3] = *b"HIR";
-
-const VERSION: u16 = 1;
 
 // The five lists of a record, in their order.
 #[derive(Drop)]
@@ -35,7 +34,7 @@ fn begin(heap: Global) -> Result<Vec<u8>, AllocError>
 {
     let mut out = Vec::new(heap);
     out.extend_from_slice(&MARK)?;
-    out.extend_from_slice(&VERSION.to_be_bytes())?;
+    out.extend_from_slice(&RECORD_VERSION.to_be_bytes())?;
     Ok(out)
 }
 

@@ -1,14 +1,12 @@
 -- Lists read by position: what is found there is the next of what is left.
 use Rattle.std.proofs.Common.{◌≡◌, ℕ, zero, suc, ◌+◌, ◌<◌, List, [], ◌∷◌, take, drop, Some, None, sym, refl, ap, ◌∙◌, suc-add, zero-add, add-one, arith}
 use Rattle.std.specs.List.{slice_get}
-
-drop_suc : {X : Type 0} (xs : List X) (i : ℕ) (x : X) → slice_get xs i ≡ Some x → drop i xs ≡ x ∷ drop (suc i) xs
-drop_suc [] i x e = let z : ◌≡◌ {A = ℕ} 0 1 = cc in absurd (omega arith)
-drop_suc (y ∷ ys) zero x e = let z : y ≡ x = cc in ap (λ v. v ∷ ys) z
-drop_suc (y ∷ ys) (suc i) x e = drop_suc ys i x e
+use Rattle.std.proofs.lemmas.List.{drop_more}
+use Rattle.std.proofs.lemmas.Option.{slice_get_within, get_or_from_slice_get}
 
 pub drop_nth : {X : Type 0} (xs : List X) (i : ℕ) (x : X) → slice_get xs i ≡ Some x → drop i xs ≡ x ∷ drop (i + 1) xs
-drop_nth xs i x e = rw add-one (drop_suc xs i x e)
+drop_nth xs i x e =
+    drop_more xs i x (slice_get_within xs i x e) ∙ ap (λ y. y ∷ drop (i + 1) xs) (get_or_from_slice_get xs i x x e)
 
 pub drop_none : {X : Type 0} (xs : List X) (i : ℕ) → slice_get xs i ≡ None → drop i xs ≡ []
 drop_none [] zero e = refl

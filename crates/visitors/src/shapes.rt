@@ -140,7 +140,8 @@ const TRIES: TerminalShape = TerminalShape {
     falls_through: true,
 };
 
-// By the number of the instruction's kind.
+// By the number of the instruction's kind, as a table and not as a method of the kind: a row tells the
+// number, and one table is what the definition has.
 const INSTRUCTION_SHAPES: [InstructionShape; 42] = [
     ONE_READ, // LoadLocal
     ONE_READ, // LoadContext
@@ -211,7 +212,8 @@ const TERMINAL_SHAPES: [TerminalShape; 21] = [
     ONE_PART, // PrunedScope
 ];
 
-// The shape of a kind of instruction, if there is such a kind.
+// The shape of a kind of instruction, if there is such a kind: a row's word may name none. The two
+// functions differ in the table alone, and that is all that they have.
 pub fn instruction_shape(kind: u32) -> Option<InstructionShape>
     ensures { result ≡ slice_get instruction_shapes kind }
 {
