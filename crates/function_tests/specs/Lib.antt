@@ -1,3 +1,4 @@
+pub mod Subject
 pub mod Steps
 pub mod Rows
 pub mod Ranges

@@ -9,7 +9,7 @@ use react_compiler_hir::Source;
 
 impl<S: Source> Tested<'_, S> {
     fn because(&self, reason: Reason) -> FunctionFault
-        ensures { result ≡ because S.tag reason }
+        ensures { result ≡ because self.now.kind reason }
     {
         FunctionFault {
             source: self.source.source_kind(),
@@ -18,13 +18,13 @@ impl<S: Source> Tested<'_, S> {
     }
 
     pub fn fault_at(&self, place: Place, reason: Reason) -> Envelope<Fault>
-        ensures { result ≡ at_step place.block place.step (because S.tag reason) }
+        ensures { result ≡ at_step place.block place.step (because self.now.kind reason) }
     {
         Envelope::new(Some(place), self.because(reason)).into()
     }
 
     pub fn fault_nowhere(&self, reason: Reason) -> Envelope<Fault>
-        ensures { result ≡ nowhere (because S.tag reason) }
+        ensures { result ≡ nowhere (because self.now.kind reason) }
     {
         Envelope::new(None, self.because(reason)).into()
     }

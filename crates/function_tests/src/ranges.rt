@@ -21,7 +21,7 @@ fn range_sound(range: MutableRange, last: u32) -> bool
 impl<S: Source> Tested<'_, S> {
     // Whether the scope that an identifier names, if it names one, has such a range.
     pub fn names_sound(&self, identifier: u32, last: u32) -> bool
-        ensures { result ≡ names_sound last self.now.scopes.now self.now.identifiers.now identifier }
+        ensures { result ≡ names_sound last self.now.scopes self.now.identifiers identifier }
     {
         row_at(self.identifiers, identifier as usize)
             .and_then(|row| row.scope_position())
@@ -31,7 +31,7 @@ impl<S: Source> Tested<'_, S> {
 
     // Whether each identifier of a part does.
     pub fn part_sound(&self, part: Part, last: u32) -> bool
-        ensures { result ≡ all_sound last self.now.scopes.now self.now.identifiers.now (words_of (S.function self.now.source.now).words part) }
+        ensures { result ≡ all_sound last self.now.scopes self.now.identifiers (words_of self.now.function.words part) }
     {
         all_words(self.source, part, |word| self.names_sound(word, last))
     }

@@ -14,7 +14,7 @@ impl<S: Source> Tested<'_, S> {
     // Whether all that an instruction mentions names scopes with sound ranges. The target of a
     // StoreContext is an operand too, but a second look at it would tell nothing new.
     fn instruction_sound(&self, row: &InstructionRow, last: u32) -> bool
-        ensures { result ≡ instruction_sound last self.now.scopes.now self.now.identifiers.now (S.function self.now.source.now).words row.now }
+        ensures { result ≡ instruction_sound last self.now.scopes self.now.identifiers self.now.function.words row.now }
     {
         self.names_sound(row.lvalue, last)
             && self.part_sound(targets(row), last)
@@ -27,7 +27,7 @@ impl<S: Source> Tested<'_, S> {
         place: Place,
         last: u32,
     ) -> Result<(), Envelope<Fault>>
-        ensures { result ≡ instruction_ranged S.tag (S.function self.now.source.now) self.now.scopes.now self.now.identifiers.now last place.block place.step tt row.now }
+        ensures { result ≡ instruction_ranged self.now.kind self.now.function self.now.scopes self.now.identifiers last place.block place.step tt row.now }
     {
         if self.instruction_sound(row, last) {
             Ok(())
@@ -37,7 +37,7 @@ impl<S: Source> Tested<'_, S> {
     }
 
     fn reach_run(&self, row: &BlockRow, block: u32, last: u32) -> Result<(), Envelope<Fault>>
-        ensures { result ≡ run_ranged S.tag (S.function self.now.source.now) self.now.scopes.now self.now.identifiers.now last block (instructions_of (S.function self.now.source.now).instructions row.now) }
+        ensures { result ≡ run_ranged self.now.kind self.now.function self.now.scopes self.now.identifiers last block (instructions_of self.now.function.instructions row.now) }
     {
         test_each(
             |i| self.source.instruction(i),
@@ -51,7 +51,7 @@ impl<S: Source> Tested<'_, S> {
     }
 
     fn reach_block(&self, row: &BlockRow, block: u32, last: u32) -> Result<(), Envelope<Fault>>
-        ensures { result ≡ block_ranged S.tag (S.function self.now.source.now) self.now.scopes.now self.now.identifiers.now last block tt row.now }
+        ensures { result ≡ block_ranged self.now.kind self.now.function self.now.scopes self.now.identifiers last block tt row.now }
     {
         self.reach_run(row, block, last)?;
         let step = row.instruction_count;
@@ -64,8 +64,8 @@ impl<S: Source> Tested<'_, S> {
     }
 
     pub fn reach_blocks(&self, last: u32) -> Result<(), Envelope<Fault>>
-        requires { length (S.function self.now.source.now).blocks ≤ 1024 }
-        ensures { result ≡ blocks_ranged S.tag (S.function self.now.source.now) self.now.scopes.now self.now.identifiers.now last (S.function self.now.source.now).blocks }
+        requires { length self.now.function.blocks ≤ 1024 }
+        ensures { result ≡ blocks_ranged self.now.kind self.now.function self.now.scopes self.now.identifiers last self.now.function.blocks }
     {
         test_each(
             |i| self.source.block(i),

@@ -35,7 +35,7 @@ fn ends_within(start: u32, first: u32, second: u32, length: usize) -> bool
 
 impl<S: Source> Tested<'_, S> {
     pub fn instruction_fits(&self, row: &InstructionRow) -> bool
-        ensures { result ≡ instruction_fits (S.function self.now.source.now) row.now }
+        ensures { result ≡ instruction_fits self.now.function row.now }
     {
         let words = self.source.word_count();
         instruction_shaped(row)
@@ -43,7 +43,7 @@ impl<S: Source> Tested<'_, S> {
     }
 
     pub fn block_fits(&self, row: &BlockRow) -> bool
-        ensures { result ≡ block_fits (S.function self.now.source.now) row.now }
+        ensures { result ≡ block_fits self.now.function row.now }
     {
         let instructions = self.source.instruction_count();
         let words = self.source.word_count();
@@ -65,13 +65,13 @@ impl<S: Source> Tested<'_, S> {
 
     // Whether every word of a part is a position below the limit.
     fn part_below(&self, part: Part, limit: usize) -> bool
-        ensures { result ≡ all_below limit (words_of (S.function self.now.source.now).words part) }
+        ensures { result ≡ all_below limit (words_of self.now.function.words part) }
     {
         all_words(self.source, part, |word| (word as usize) < limit)
     }
 
     pub fn instruction_known(&self, row: &InstructionRow) -> bool
-        ensures { result ≡ instruction_known (S.function self.now.source.now) (length self.now.identifiers.now) row.now }
+        ensures { result ≡ instruction_known self.now.function (length self.now.identifiers) row.now }
     {
         let identifiers = self.identifiers.len();
         (row.lvalue as usize) < identifiers
@@ -80,7 +80,7 @@ impl<S: Source> Tested<'_, S> {
     }
 
     pub fn block_known(&self, row: &BlockRow) -> bool
-        ensures { result ≡ block_known (S.function self.now.source.now) (length self.now.identifiers.now) row.now }
+        ensures { result ≡ block_known self.now.function (length self.now.identifiers) row.now }
     {
         self.part_below(operands(row), self.identifiers.len())
             && self.part_below(successors(row), self.source.block_count())

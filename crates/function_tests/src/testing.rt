@@ -14,7 +14,7 @@ use react_compiler_hir::{
 
 impl<S: Source> Tested<'_, S> {
     fn within_limits(&self) -> bool
-        ensures { result ≡ within_limits (S.function self.now.source.now) (length self.now.scopes.now) (length self.now.identifiers.now) }
+        ensures { result ≡ within_limits self.now.function (length self.now.scopes) (length self.now.identifiers) }
     {
         self.source.block_count() <= MOST_BLOCKS as usize
             && self.source.instruction_count() <= MOST_INSTRUCTIONS as usize
@@ -25,7 +25,7 @@ impl<S: Source> Tested<'_, S> {
 
     // The tests that look at no row of the function.
     fn test_tables(&self, memory: Memory) -> Result<(), Envelope<Fault>>
-        ensures { result ≡ tables_tested S.tag (S.function self.now.source.now) self.now.scopes.now self.now.identifiers.now memory }
+        ensures { result ≡ tables_tested self.now.kind self.now.function self.now.scopes self.now.identifiers memory }
     {
         if !self.within_limits() {
             return Err(self.fault_nowhere(Reason::OverLimit));

@@ -11,7 +11,7 @@ use react_compiler_hir::{BlockRow, InstructionRow, Source};
 impl<S: Source> Tested<'_, S> {
     // The number must be the next after those walked so far; it then says how many there are.
     fn test_number(&self, place: Place, walked: u32, number: u32) -> Result<u32, Envelope<Fault>>
-        ensures { result ≡ number_tested S.tag place.block place.step walked number }
+        ensures { result ≡ number_tested self.now.kind place.block place.step walked number }
     {
         if walked.checked_add(1) == Some(number) {
             Ok(number)
@@ -26,7 +26,7 @@ impl<S: Source> Tested<'_, S> {
         place: Place,
         walked: u32,
     ) -> Result<u32, Envelope<Fault>>
-        ensures { result ≡ instruction_tested S.tag (S.function self.now.source.now) (length self.now.identifiers.now) place.block place.step walked row.now }
+        ensures { result ≡ instruction_tested self.now.kind self.now.function (length self.now.identifiers) place.block place.step walked row.now }
     {
         if !self.instruction_fits(row) {
             return Err(self.fault_at(place, Reason::OutOfRange));
@@ -38,7 +38,7 @@ impl<S: Source> Tested<'_, S> {
     }
 
     fn test_block(&self, row: &BlockRow, block: u32) -> Result<(), Envelope<Fault>>
-        ensures { result ≡ block_tested S.tag (S.function self.now.source.now) (length self.now.identifiers.now) block row.now }
+        ensures { result ≡ block_tested self.now.kind self.now.function (length self.now.identifiers) block row.now }
     {
         let entry = Place { block, step: 0 };
         if !self.block_fits(row) {
@@ -52,7 +52,7 @@ impl<S: Source> Tested<'_, S> {
 
     // A block's instructions. A run that leaves the instructions ends with them.
     fn walk_run(&self, row: &BlockRow, block: u32, before: u32) -> Result<u32, Envelope<Fault>>
-        ensures { result ≡ run_walked S.tag (S.function self.now.source.now) (length self.now.identifiers.now) block before (instructions_of (S.function self.now.source.now).instructions row.now) }
+        ensures { result ≡ run_walked self.now.kind self.now.function (length self.now.identifiers) block before (instructions_of self.now.function.instructions row.now) }
     {
         test_each(
             |i| self.source.instruction(i),
@@ -66,7 +66,7 @@ impl<S: Source> Tested<'_, S> {
     }
 
     fn walk_block(&self, row: &BlockRow, block: u32, before: u32) -> Result<u32, Envelope<Fault>>
-        ensures { result ≡ block_walked S.tag (S.function self.now.source.now) (length self.now.identifiers.now) block before row.now }
+        ensures { result ≡ block_walked self.now.kind self.now.function (length self.now.identifiers) block before row.now }
     {
         self.test_block(row, block)?;
         let walked = self.walk_run(row, block, before)?;
@@ -76,8 +76,8 @@ impl<S: Source> Tested<'_, S> {
 
     // Walks all blocks, and answers how many numbers there are.
     pub fn walk_blocks(&self) -> Result<u32, Envelope<Fault>>
-        requires { length (S.function self.now.source.now).blocks ≤ 1024 }
-        ensures { result ≡ blocks_walked S.tag (S.function self.now.source.now) (length self.now.identifiers.now) (S.function self.now.source.now).blocks }
+        requires { length self.now.function.blocks ≤ 1024 }
+        ensures { result ≡ blocks_walked self.now.kind self.now.function (length self.now.identifiers) self.now.function.blocks }
     {
         test_each(
             |i| self.source.block(i),

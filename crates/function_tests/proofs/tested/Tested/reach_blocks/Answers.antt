@@ -4,5 +4,5 @@ use Rattle.function_tests.proofs.tested.Tested.reach_blocks.Goals as goal
 
 pub returns : goal.returns
 returns g c =
-    let whole = take-length (g.S.Source.function c.args.self.now.source.now).blocks in
+    let whole = take-length (g.S.Source.function c.self.inside.source.now).blocks in
     search rules
