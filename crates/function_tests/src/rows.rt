@@ -33,6 +33,7 @@ fn ends_within(start: u32, first: u32, second: u32, length: usize) -> bool
     start as usize + first as usize + second as usize <= length
 }
 
+// An instruction and a block are tested by functions of their own, since each has other fields.
 impl<S: Source> Tested<'_, S> {
     pub fn instruction_fits(&self, row: &InstructionRow) -> bool
         ensures { result ≡ instruction_fits self.now.function row.now }

@@ -1,4 +1,4 @@
-// The first walk: rows and numbers.
+// The first walk: rows and numbers. A row and its position are told apart, so they are two parameters.
 ghost use Rattle.std.specs.Prelude.{◌≡◌, ◌≤◌, length};
 ghost use Rattle.visitors.specs.Mentions.{instructions_of};
 ghost use Rattle.function_tests.specs.Walks.{number_tested, instruction_tested, block_tested, run_walked, block_walked, blocks_walked};
