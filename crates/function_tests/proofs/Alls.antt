@@ -6,16 +6,16 @@ use Rattle.visitors.proofs.Positions.{drop_nth, drop_none, nth_part}
 use Rattle.std.specs.List.{list_all}
 
 module _ {X : Type 0} (test : X → Bool) (xs : List X) (i : ℕ) (rest : list_all test (drop i xs) ≡ list_all test xs) where
-  pub all_more : (x : X) → slice_get xs i ≡ Some x → test x ≡ true → list_all test (drop (i + 1) xs) ≡ list_all test xs
+  all_more : (x : X) → slice_get xs i ≡ Some x → test x ≡ true → list_all test (drop (i + 1) xs) ≡ list_all test xs
   all_more x found holds = rw holds at (rw (drop_nth xs i x found) at rest)
 
-  pub all_failed : (x : X) → slice_get xs i ≡ Some x → test x ≡ false → false ≡ list_all test xs
+  all_failed : (x : X) → slice_get xs i ≡ Some x → test x ≡ false → false ≡ list_all test xs
   all_failed x found fails = rw fails at (rw (drop_nth xs i x found) at rest)
 
-  pub all_ended : slice_get xs i ≡ None → true ≡ list_all test xs
+  all_ended : slice_get xs i ≡ None → true ≡ list_all test xs
   all_ended none = rw (drop_none xs i none) at rest
 
-  pub all_passed : length xs ≤ i → true ≡ list_all test xs
+  all_passed : length xs ≤ i → true ≡ list_all test xs
   all_passed past = rw (drop_all i xs past) at rest
 
 -- the same over a part of a list, which is read by the positions of the whole
