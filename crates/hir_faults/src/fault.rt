@@ -43,6 +43,7 @@ pub enum Reason {
 // A function that is no input for a pass, with the kind number of its source.
 #[derive(Clone, Copy, Debug, PartialEq, Eq)]
 pub struct FunctionFault {
+    // A number, as `Source::KIND` is, since later crates add types of source.
     pub source: u32,
     pub reason: Reason,
 }
@@ -85,11 +86,11 @@ pub trait LayerFault: Copy {
 
     ghost number: { Self → ℕ };
 
-    // The same fault as one of any layer.
+    // The same fault as one of any layer. No `From`: the `From` of envelopes and the contracts name what it becomes.
     fn any(self) -> Fault
         ensures { result ≡ any self };
 
-    // Its number in the table of faults.
+    // Its number in the table of faults. No `From`: contracts name the number, where `From` has only a relation.
     fn number(self) -> u32
         ensures { result ≡ number self };
 }
@@ -120,8 +121,8 @@ impl<F: LayerFault> From<Envelope<F>> for Envelope<Fault> {
 }
 
 impl Layer {
-    // Its number in the table of layers, by a name and not by `From`, which would not say what the
-    // number is.
+    // Its number in the table of layers, by a name and not by `From`: contracts name the number
+    // (`layer_number`), where `From` has only a relation.
     pub fn number(self) -> u32
         ensures { result ≡ layer_number self }
     {

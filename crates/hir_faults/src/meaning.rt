@@ -1,9 +1,14 @@
 // What the layers are called, and what each fault means, for a person.
+ghost use Rattle.std.specs.Prelude.{Some};
+ghost use Rattle.hir_faults.specs.Meanings.{layer_text, record_meaning, reason_meaning, function_meaning, pass_meaning, fault_meaning};
+
 use crate::fault::{Fault, FunctionFault, Layer, PassFault, Reason, RecordFault};
 use std::error::Error;
 use std::fmt;
 
 impl fmt::Display for Layer {
+    ghost output = { λ l. Some (layer_text l) };
+
     fn fmt<W: fmt::Write>(&self, f: &mut fmt::Formatter<W>) -> fmt::Result {
         f.write_str(match *self {
             Layer::Record => "record",
@@ -14,6 +19,8 @@ impl fmt::Display for Layer {
 }
 
 impl fmt::Display for RecordFault {
+    ghost output = { λ f. Some (record_meaning f) };
+
     fn fmt<W: fmt::Write>(&self, f: &mut fmt::Formatter<W>) -> fmt::Result {
         f.write_str(match *self {
             RecordFault::TooShort => "a record has at least 25 bytes",
@@ -26,6 +33,8 @@ impl fmt::Display for RecordFault {
 }
 
 impl fmt::Display for Reason {
+    ghost output = { λ r. Some (reason_meaning r) };
+
     fn fmt<W: fmt::Write>(&self, f: &mut fmt::Formatter<W>) -> fmt::Result {
         f.write_str(match *self {
             Reason::OverLimit => "a list or table is over its limit",
@@ -39,12 +48,16 @@ impl fmt::Display for Reason {
 }
 
 impl fmt::Display for FunctionFault {
+    ghost output = { λ f. Some (function_meaning f) };
+
     fn fmt<W: fmt::Write>(&self, f: &mut fmt::Formatter<W>) -> fmt::Result {
         write!(f, "{}", self.reason)
     }
 }
 
 impl fmt::Display for PassFault {
+    ghost output = { λ f. Some (pass_meaning f) };
+
     fn fmt<W: fmt::Write>(&self, f: &mut fmt::Formatter<W>) -> fmt::Result {
         f.write_str(match *self {
             PassFault::TooLittleMemory => "the memory given is too small",
@@ -56,6 +69,8 @@ impl fmt::Display for PassFault {
 }
 
 impl fmt::Display for Fault {
+    ghost output = { λ f. Some (fault_meaning f) };
+
     fn fmt<W: fmt::Write>(&self, f: &mut fmt::Formatter<W>) -> fmt::Result {
         match *self {
             Fault::Record(fault) => write!(f, "{fault}"),

@@ -1,6 +1,7 @@
 // Why five lists make no record.
-ghost use Rattle.std.specs.Prelude.{◌≡◌};
+ghost use Rattle.std.specs.Prelude.{◌≡◌, Some};
 ghost use Rattle.record_encoding.specs.declared.error.EncodeError.TheVariants.{Memory};
+ghost use Rattle.record_encoding.specs.Errors.{encode_error_text};
 
 use std::alloc::AllocError;
 use std::error::Error;
@@ -15,10 +16,12 @@ pub enum EncodeError {
 }
 
 impl fmt::Display for EncodeError {
+    ghost output = { λ e. Some (encode_error_text e) };
+
     fn fmt<W: fmt::Write>(&self, f: &mut fmt::Formatter<W>) -> fmt::Result {
         f.write_str(match *self {
-            EncodeError::Memory => "there is no memory for the record",
-            EncodeError::TooMany => "a list has more rows than a count of 32 bits can tell",
+            EncodeError::Memory => "out of memory",
+            EncodeError::TooMany => "a list has too many rows",
         })
     }
 }
