@@ -2,7 +2,7 @@
 ghost use Rattle.std.specs.Prelude.{◌≡◌};
 ghost use Rattle.record_encoding.specs.declared.error.EncodeError.TheVariants.{Memory};
 
-use std::alloc::AllocError;
+use std::alloc::{AllocError, AllocFailed};
 use std::error::Error;
 use std::fmt;
 
@@ -17,8 +17,8 @@ pub enum EncodeError {
 impl fmt::Display for EncodeError {
     fn fmt<W: fmt::Write>(&self, f: &mut fmt::Formatter<W>) -> fmt::Result {
         f.write_str(match *self {
-            EncodeError::Memory => "there is no memory for the record",
-            EncodeError::TooMany => "a list has more rows than a count of 32 bits can tell",
+            EncodeError::Memory => "out of memory",
+            EncodeError::TooMany => "a list has too many rows",
         })
     }
 }
@@ -30,5 +30,13 @@ impl From<AllocError> for EncodeError {
 
     fn from(_e: AllocError) -> EncodeError {
         EncodeError::Memory
+    }
+}
+
+impl<T: Drop> From<AllocFailed<T>> for EncodeError {
+    ghost from_gives = { λ x y. y ≡ Memory };
+
+    fn from(e: AllocFailed<T>) -> EncodeError {
+        AllocError::from(e).into()
     }
 }
