@@ -1,7 +1,10 @@
 // A fault as text: one line for a person, and the same facts as words for a program.
 #![tactic(auto)]
 
+mod or_dash;
+
 use hir_faults::{Envelope, Fault, Place};
+pub use or_dash::OrDash;
 use std::fmt;
 
 // Its number, what it means, its layer and its place.
@@ -34,15 +37,19 @@ impl fmt::Display for FaultLine {
 
 impl fmt::Display for PlainFault {
     fn fmt<W: fmt::Write>(&self, f: &mut fmt::Formatter<W>) -> fmt::Result {
-        let e = self.0;
-        write!(f, "fault {} {}", e.fault.number(), e.layer.number())?;
-        match e.place {
-            Some(Place { block, step }) => write!(f, " {block} {step}")?,
-            None => f.write_str(" - -")?,
-        }
-        match e.fault.source_kind() {
-            Some(kind) => write!(f, " {kind}"),
-            None => f.write_str(" -"),
-        }
+        let Envelope {
+            fault,
+            layer,
+            place,
+        } = self.0;
+        write!(
+            f,
+            "fault {} {} {} {} {}",
+            fault.number(),
+            layer.number(),
+            OrDash(place.map(|place| place.block)),
+            OrDash(place.map(|place| place.step)),
+            OrDash(fault.source_kind())
+        )
     }
 }

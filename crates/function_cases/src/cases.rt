@@ -57,6 +57,7 @@ impl Case {
         let Some((count, line)) = rest.split_once(' ') else {
             return Ok(());
         };
+        // A count of lines, and no index.
         for _ in 0..count.parse::<u32>().unwrap_or(0) {
             self.add_line(line)?;
         }

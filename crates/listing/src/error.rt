@@ -1,6 +1,5 @@
 // What can be wrong with a listing.
 use record_encoding::EncodeError;
-use std::alloc::{AllocError, AllocFailed};
 use std::error::Error;
 use std::fmt;
 
@@ -22,16 +21,14 @@ pub enum Wanted {
 // was wanted there.
 #[derive(Clone, Copy, Debug, PartialEq, Eq)]
 pub enum Problem {
-    Memory,
-    TooMany,
+    NoRecord(EncodeError),
     At { wanted: Wanted, word: usize },
 }
 
 // Why a text makes no record. What was found stands in the text itself, or the line ends there.
 #[derive(Clone, Copy, Debug, PartialEq, Eq)]
 pub enum ListingError<'t> {
-    Memory,
-    TooMany,
+    NoRecord(EncodeError),
     Line {
         number: usize,
         wanted: Wanted,
@@ -50,8 +47,7 @@ impl Problem {
     // The problem as that of a text, with the line that has it.
     pub fn of_line<'t>(self, number: usize, words: &[&'t str]) -> ListingError<'t> {
         match self {
-            Problem::Memory => ListingError::Memory,
-            Problem::TooMany => ListingError::TooMany,
+            Problem::NoRecord(e) => ListingError::NoRecord(e),
             Problem::At { wanted, word } => ListingError::Line {
                 number,
                 wanted,
@@ -61,39 +57,15 @@ impl Problem {
     }
 }
 
-impl From<AllocError> for Problem {
-    fn from(_e: AllocError) -> Problem {
-        Problem::Memory
+impl<E: Into<EncodeError>> From<E> for Problem {
+    fn from(e: E) -> Problem {
+        Problem::NoRecord(e.into())
     }
 }
 
-impl<T: Drop> From<AllocFailed<T>> for Problem {
-    fn from(_e: AllocFailed<T>) -> Problem {
-        Problem::Memory
-    }
-}
-
-impl From<EncodeError> for Problem {
-    fn from(e: EncodeError) -> Problem {
-        match e {
-            EncodeError::Memory => Problem::Memory,
-            EncodeError::TooMany => Problem::TooMany,
-        }
-    }
-}
-
-impl From<AllocError> for ListingError<'_> {
-    fn from(_e: AllocError) -> Self {
-        ListingError::Memory
-    }
-}
-
-impl From<EncodeError> for ListingError<'_> {
-    fn from(e: EncodeError) -> Self {
-        match e {
-            EncodeError::Memory => ListingError::Memory,
-            EncodeError::TooMany => ListingError::TooMany,
-        }
+impl<E: Into<EncodeError>> From<E> for ListingError<'_> {
+    fn from(e: E) -> Self {
+        ListingError::NoRecord(e.into())
     }
 }
 
@@ -116,8 +88,7 @@ impl fmt::Display for Wanted {
 impl fmt::Display for ListingError<'_> {
     fn fmt<W: fmt::Write>(&self, f: &mut fmt::Formatter<W>) -> fmt::Result {
         match *self {
-            ListingError::Memory => f.write_str("out of memory"),
-            ListingError::TooMany => f.write_str("a list has too many rows"),
+            ListingError::NoRecord(e) => write!(f, "{e}"),
             ListingError::Line {
                 number,
                 wanted,

@@ -1,6 +1,6 @@
 // A listing, read line by line.
 use crate::error::{ListingError, Problem, Wanted};
-use crate::fields::{end, find_parts, kind, number};
+use crate::fields::Words;
 use crate::rows::{identifier_row, row};
 use react_compiler_hir::{BlockKind, BlockRow, InstructionKind, InstructionRow, TerminalKind};
 use record_encoding::{Listing, count};
@@ -10,6 +10,7 @@ use std::ops::Range;
 // A block whose terminal is still to come.
 #[derive(Clone, Copy, Debug)]
 struct OpenBlock {
+    // A listing may give a number that names no kind.
     kind: u32,
     first_instruction: u32,
 }
@@ -32,10 +33,10 @@ struct Reader {
 
 // Appends the numbers at these places of a line, and answers how many there are. The words are taken
 // by place and not as a slice, since a problem names the place.
-fn push_words(all: &mut Vec<u32>, words: &[&str], places: Range<usize>) -> Result<u32, Problem> {
+fn push_words(all: &mut Vec<u32>, words: Words<'_>, places: Range<usize>) -> Result<u32, Problem> {
     let length = places.len();
     for at in places {
-        all.push(number(words, at)?)?;
+        all.push(words.number(at)?)?;
     }
     Ok(count(length)?)
 }
@@ -43,12 +44,12 @@ fn push_words(all: &mut Vec<u32>, words: &[&str], places: Range<usize>) -> Resul
 // Appends the two parts of a list.
 fn push_list(
     all: &mut Vec<u32>,
-    words: &[&str],
+    words: Words<'_>,
     at: usize,
     first: &str,
     second: &str,
 ) -> Result<List, Problem> {
-    let parts = find_parts(words, at, first, second)?;
+    let parts = words.parts(at, first, second)?;
     Ok(List {
         start: count(all.len())?,
         first: push_words(all, words, parts.first)?,
@@ -58,8 +59,8 @@ fn push_list(
 
 impl Reader {
     // One line, by its words.
-    fn item(&mut self, words: &[&str]) -> Result<(), Problem> {
-        match words {
+    fn item(&mut self, words: Words<'_>) -> Result<(), Problem> {
+        match words.0 {
             [] => Ok(()),
             ["scope", ..] => Ok(self.listing.scopes.push(row(words)?)?),
             ["identifier", ..] => Ok(self.listing.identifiers.push(identifier_row(words)?)?),
@@ -73,12 +74,12 @@ impl Reader {
         }
     }
 
-    fn block(&mut self, words: &[&str]) -> Result<(), Problem> {
+    fn block(&mut self, words: Words<'_>) -> Result<(), Problem> {
         if self.open.is_some() {
             return Err(Wanted::Terminal.at(0));
         }
-        let kind = kind::<BlockKind>(self.heap, words, 1)?;
-        end(words, 2)?;
+        let kind = words.kind::<BlockKind>(self.heap, 1)?;
+        words.end(2)?;
         let first_instruction = count(self.listing.instructions.len())?;
         self.open = Some(OpenBlock {
             kind,
@@ -87,15 +88,15 @@ impl Reader {
         Ok(())
     }
 
-    fn instruction(&mut self, words: &[&str]) -> Result<(), Problem> {
+    fn instruction(&mut self, words: Words<'_>) -> Result<(), Problem> {
         if self.open.is_none() {
             return Err(Wanted::OpenBlock.at(0));
         }
         let list = push_list(&mut self.listing.words, words, 4, "targets", "reads")?;
         let row = InstructionRow {
-            number: number(words, 1)?,
-            kind: kind::<InstructionKind>(self.heap, words, 2)?,
-            lvalue: number(words, 3)?,
+            number: words.number(1)?,
+            kind: words.kind::<InstructionKind>(self.heap, 2)?,
+            lvalue: words.number(3)?,
             list_start: list.start,
             target_count: list.first,
             read_count: list.second,
@@ -104,7 +105,7 @@ impl Reader {
     }
 
     // It closes the open block, which has the instructions that were read since.
-    fn terminal(&mut self, words: &[&str]) -> Result<(), Problem> {
+    fn terminal(&mut self, words: Words<'_>) -> Result<(), Problem> {
         let open = self.open.take().ok_or(Wanted::OpenBlock.at(0))?;
         let list = push_list(&mut self.listing.words, words, 3, "operands", "successors")?;
         let rows = count(self.listing.instructions.len())?;
@@ -112,8 +113,8 @@ impl Reader {
             kind: open.kind,
             first_instruction: open.first_instruction,
             instruction_count: rows.saturating_sub(open.first_instruction),
-            terminal_number: number(words, 1)?,
-            terminal_kind: kind::<TerminalKind>(self.heap, words, 2)?,
+            terminal_number: words.number(1)?,
+            terminal_kind: words.kind::<TerminalKind>(self.heap, 2)?,
             list_start: list.start,
             operand_count: list.first,
             successor_count: list.second,
@@ -125,7 +126,7 @@ impl Reader {
     fn line<'t>(&mut self, number: usize, text: &'t str) -> Result<(), ListingError<'t>> {
         let code = text.split_once('#').map_or(text, |(code, _)| code);
         let words: Vec<&'t str> = code.split_whitespace().collect(self.heap)?;
-        self.item(words.as_slice())
+        self.item(Words(words.as_slice()))
             .map_err(|problem| problem.of_line(number, words.as_slice()))
     }
 }

@@ -13,7 +13,8 @@ struct Limited {
     wraps: u32,
 }
 
-// The five lists, in the order of their counts.
+// The five lists, in the order of their counts. A test has its own numbers, so that a wrong limit in
+// the code shows.
 const LISTS: [Limited; 5] = [
     Limited {
         name: "blocks",

@@ -1,7 +1,7 @@
 // Loading a record into tables of several lengths, whose rows are marked before.
 use crate::checksum::Checksum;
 use hir_faults::Fault;
-use hir_record::{Counts, load};
+use hir_record::load;
 use react_compiler_hir::{IdentifierRow, Row, ScopeRow};
 use std::alloc::{AllocError, Global};
 use std::fmt;
@@ -18,7 +18,7 @@ pub struct Refusal {
 
 // What a load answered and left: the counts and all rows of both tables, summed, or the refusal.
 // Nothing where there is no table as short as that.
-#[derive(Clone, Copy, Debug, PartialEq, Eq)]
+#[derive(Clone, Copy, Debug, Default, PartialEq, Eq)]
 pub struct Loaded(Option<Result<Checksum, Refusal>>);
 
 impl fmt::Display for Loaded {
@@ -34,45 +34,54 @@ impl fmt::Display for Loaded {
     }
 }
 
-fn add_tables(sum: &mut Checksum, scopes: &[ScopeRow], identifiers: &[IdentifierRow]) {
-    sum.add_rows(scopes.iter().copied());
-    sum.add_rows(identifiers.iter().copied());
+// The two tables that a record is loaded into.
+#[derive(Drop)]
+struct Tables {
+    scopes: Vec<ScopeRow>,
+    identifiers: Vec<IdentifierRow>,
 }
 
-fn sum_of(scopes: &[ScopeRow], identifiers: &[IdentifierRow]) -> Checksum {
-    let mut sum = Checksum::new();
-    add_tables(&mut sum, scopes, identifiers);
-    sum
-}
+impl Tables {
+    // So many rows, each of them marked.
+    fn marked(heap: Global, scopes: u32, identifiers: u32) -> Result<Tables, AllocError> {
+        let scope = ScopeRow::from_words(&[MARK; 3]);
+        let identifier = IdentifierRow::from_words(&[MARK; 5]);
+        Ok(Tables {
+            scopes: vec![in heap; scope; scopes as usize]?,
+            identifiers: vec![in heap; identifier; identifiers as usize]?,
+        })
+    }
 
-fn add_counts(sum: &mut Checksum, counts: Counts) {
-    sum.add_words(&[
-        counts.blocks,
-        counts.instructions,
-        counts.words,
-        counts.scopes,
-        counts.identifiers,
-    ]);
-}
+    fn add_to(&self, sum: &mut Checksum) {
+        sum.add_rows(self.scopes.iter().copied());
+        sum.add_rows(self.identifiers.iter().copied());
+    }
 
-// Loads into two tables that are given, and looks at them afterwards.
-fn load_rows(
-    bytes: &[u8],
-    scopes: &mut [ScopeRow],
-    identifiers: &mut [IdentifierRow],
-) -> Result<Checksum, Refusal> {
-    let before = sum_of(scopes, identifiers);
-    match load(bytes, scopes, identifiers) {
-        Ok(counts) => {
-            let mut sum = Checksum::new();
-            add_counts(&mut sum, counts);
-            add_tables(&mut sum, scopes, identifiers);
-            Ok(sum)
+    fn sum(&self) -> Checksum {
+        let mut sum = Checksum::new();
+        self.add_to(&mut sum);
+        sum
+    }
+
+    // Loads a record, and looks at the rows afterwards.
+    fn load(&mut self, bytes: &[u8]) -> Result<Checksum, Refusal> {
+        let before = self.sum();
+        match load(
+            bytes,
+            self.scopes.as_mut_slice(),
+            self.identifiers.as_mut_slice(),
+        ) {
+            Ok(counts) => {
+                let mut sum = Checksum::new();
+                sum.add_words(&counts.words());
+                self.add_to(&mut sum);
+                Ok(sum)
+            }
+            Err(e) => Err(Refusal {
+                fault: e.fault,
+                kept: self.sum() == before,
+            }),
         }
-        Err(e) => Err(Refusal {
-            fault: e.fault,
-            kept: sum_of(scopes, identifiers) == before,
-        }),
     }
 }
 
@@ -86,13 +95,6 @@ pub fn load_marked(
     let (Some(scopes), Some(identifiers)) = (scopes, identifiers) else {
         return Ok(Loaded(None));
     };
-    let scope = ScopeRow::from_words(&[MARK; 3]);
-    let identifier = IdentifierRow::from_words(&[MARK; 5]);
-    let mut scope_rows = vec![in heap; scope; scopes as usize]?;
-    let mut identifier_rows = vec![in heap; identifier; identifiers as usize]?;
-    Ok(Loaded(Some(load_rows(
-        bytes,
-        scope_rows.as_mut_slice(),
-        identifier_rows.as_mut_slice(),
-    ))))
+    let mut tables = Tables::marked(heap, scopes, identifiers)?;
+    Ok(Loaded(Some(tables.load(bytes))))
 }

@@ -29,6 +29,7 @@ pub fn with_byte(heap: Global, record: &[u8], at: usize, byte: u8) -> Result<Vec
     Ok(bytes)
 }
 
+// The mark, the version and the counts are written here anew, so that a wrong encoder shows.
 fn put_counts(out: &mut Vec<u8>, counts: [u32; 5]) -> Result<(), AllocError> {
     for count in counts {
         out.extend_from_slice(&count.to_be_bytes())?;

@@ -1,14 +1,19 @@
 // All that is printed of one record.
-use crate::loads::load_marked;
+use crate::loads::{Loaded, load_marked};
 use crate::made::Name;
 use crate::telling::tell;
 use hir_faults::{Envelope, LayerFault, RecordFault};
 use hir_record::{Counts, check, open};
+use std::alloc::{AllocError, Global};
 use std::{fmt, io};
 
 // What `check` said.
 #[derive(Clone, Copy, Debug, PartialEq, Eq)]
 struct Checked(Result<Counts, Envelope<RecordFault>>);
+
+// What each load did, behind a space.
+#[derive(Clone, Copy, Debug, PartialEq, Eq)]
+struct Loads([Loaded; 5]);
 
 // How many rows the tables of a refused record have.
 const SOME_ROWS: u32 = 2;
@@ -28,6 +33,14 @@ impl Checked {
             (Some(0), Some(0)),
         ]
     }
+
+    fn loads(&self, heap: Global, bytes: &[u8]) -> Result<Loads, AllocError> {
+        let mut loads = [Loaded::default(); 5];
+        for (slot, (scopes, identifiers)) in loads.iter_mut().zip(self.lengths()) {
+            *slot = load_marked(heap, bytes, scopes, identifiers)?;
+        }
+        Ok(Loads(loads))
+    }
 }
 
 impl fmt::Display for Checked {
@@ -43,12 +56,21 @@ impl fmt::Display for Checked {
     }
 }
 
-// Prints the line of a case.
+impl fmt::Display for Loads {
+    fn fmt<W: fmt::Write>(&self, f: &mut fmt::Formatter<W>) -> fmt::Result {
+        for loaded in &self.0 {
+            write!(f, " {loaded}")?;
+        }
+        Ok(())
+    }
+}
+
+// Prints the line of a case, when all of it is known: a load without memory leaves no line begun.
 pub fn report(rt: &HostRuntime, name: Name, bytes: &[u8]) -> io::Result<()> {
     let checked = Checked(check(bytes));
-    print!(rt; "{name}: {checked}; told {}; load", tell(&open(bytes)))?;
-    for (scopes, identifiers) in checked.lengths() {
-        print!(rt; " {}", load_marked(rt.alloc(), bytes, scopes, identifiers)?)?;
-    }
-    println!(rt)
+    let loads = checked.loads(rt.alloc(), bytes)?;
+    println!(rt;
+        "{name}: {checked}; told {}; load{loads}",
+        tell(&open(bytes))
+    )
 }

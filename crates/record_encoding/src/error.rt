@@ -3,7 +3,7 @@ ghost use Rattle.std.specs.Prelude.{◌≡◌, Some};
 ghost use Rattle.record_encoding.specs.declared.error.EncodeError.TheVariants.{Memory};
 ghost use Rattle.record_encoding.specs.Errors.{encode_error_text};
 
-use std::alloc::AllocError;
+use std::alloc::{AllocError, AllocFailed};
 use std::error::Error;
 use std::fmt;
 
@@ -33,5 +33,13 @@ impl From<AllocError> for EncodeError {
 
     fn from(_e: AllocError) -> EncodeError {
         EncodeError::Memory
+    }
+}
+
+impl<T: Drop> From<AllocFailed<T>> for EncodeError {
+    ghost from_gives = { λ x y. y ≡ Memory };
+
+    fn from(e: AllocFailed<T>) -> EncodeError {
+        AllocError::from(e).into()
     }
 }

@@ -1,8 +1,7 @@
 // The facts in columns, for a person.
-use crate::or_dash::OrDash;
 use crate::page::Page;
 use crate::printer::Printer;
-use fault_text::FaultLine;
+use fault_text::{FaultLine, OrDash};
 use hir_faults::{Envelope, Fault};
 use react_compiler_hir::{
     BlockKind, BlockRow, InstructionKind, InstructionRow, Kind, Source, TerminalKind,
@@ -65,6 +64,7 @@ fn kind_name<K: Kind>(heap: Global, number: u32) -> Result<String, AllocError> {
     }
 }
 
+// Each table has a heading and columns of its own.
 impl Columns<'_> {
     fn blocks<S: Source>(&self, source: &S) -> io::Result<()> {
         println!(self.rt)?;

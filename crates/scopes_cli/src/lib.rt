@@ -4,7 +4,6 @@
 mod columns;
 mod inspection;
 mod options;
-mod or_dash;
 mod page;
 mod plain;
 mod printer;

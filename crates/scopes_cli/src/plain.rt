@@ -1,10 +1,9 @@
 // One fact to a line.
 ghost use Rattle.std.specs.Iterator.{IsFinite};
 
-use crate::or_dash::OrDash;
 use crate::page::Page;
 use crate::printer::Printer;
-use fault_text::PlainFault;
+use fault_text::{OrDash, PlainFault};
 use hir_faults::{Envelope, Fault};
 use react_compiler_hir::{Row, Source};
 use std::{fmt, io};
@@ -28,7 +27,8 @@ impl fmt::Display for Numbers<'_> {
 }
 
 impl Plain<'_> {
-    // A line for each of some rows.
+    // A line for each of some rows. They are numbered by `zip`: of `enumerate` over an iterator whose
+    // type is open, the check leaves a goal on its count.
     fn rows<const N: usize, R: Row<N>, I: Iterator<Item = R> + Drop>(
         &self,
         name: &str,
@@ -43,6 +43,7 @@ impl Plain<'_> {
         Ok(())
     }
 
+    // Not by the words of their rows, since a scope may be `-`.
     fn identifiers(&self, page: &Page) -> io::Result<()> {
         for (i, row) in page.identifiers.iter().enumerate() {
             let range = row.mutable_range;
@@ -62,11 +63,7 @@ impl Printer for Plain<'_> {
     }
 
     fn page<S: Source>(&self, _name: &str, source: &S, page: &Page) -> io::Result<()> {
-        let c = page.counts;
-        println!(self.rt;
-            "counts{}",
-            Numbers(&[c.blocks, c.instructions, c.words, c.scopes, c.identifiers])
-        )?;
+        println!(self.rt; "counts{}", Numbers(&page.counts.words()))?;
         self.rows(
             "block",
             (0..source.block_count()).map_while(|i| source.block(i)),

@@ -11,7 +11,7 @@ use std::io::Read;
 use std::{fs, io};
 
 // Does what the words after the program's name ask for. Answers whether it could be done for every
-// file.
+// file: a bool, since the exit status is all that a caller makes of it.
 pub fn report(rt: &HostRuntime, words: &Vec<String>) -> io::Result<bool> {
     match order_of(rt.alloc(), words.as_slice()) {
         Ok(Order::Help) => {
@@ -34,6 +34,7 @@ pub fn report(rt: &HostRuntime, words: &Vec<String>) -> io::Result<bool> {
 }
 
 fn run(rt: &HostRuntime, task: Task, layout: Layout, files: &[String]) -> io::Result<bool> {
+    // The one place where the layout is chosen.
     match layout {
         Layout::Columns => Reporter::new(rt, task, Columns { rt }).files(files),
         Layout::Plain => Reporter::new(rt, task, Plain { rt }).files(files),
@@ -84,6 +85,7 @@ impl<'a, P: Printer> Reporter<'a, P> {
     }
 
     fn page(&self, name: &str, source: &RecordSource, page: &Page) -> io::Result<bool> {
+        // The one place where the task is looked at.
         match self.task {
             Task::Show => self.printer.page(name, source, page)?,
             Task::Inspect => match inspect(source, page) {
