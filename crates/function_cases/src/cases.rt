@@ -10,6 +10,7 @@ pub struct Case {
     pub listing: String,
 }
 
+// The number at a place; a case that gives none, or no number, lends nothing.
 fn number_at(words: &[&str], i: usize) -> usize {
     words
         .get(i)

@@ -9,8 +9,9 @@ use hir_faults::{Envelope, Fault};
 use react_compiler_hir::Source;
 use visitors::Part;
 
-// Whether a test holds of every word of a part. A part that leaves the words ends with them. The
-// loop counts positions, since a source answers by position and its Option is taken apart here.
+// Whether a test holds of every word of a part. A part that leaves the words ends with them. Tried as
+// chains of `map_while`, this loop and the next stayed open: the check does not show that what such a
+// chain yields is that part of the list.
 pub fn all_words<S: Source, F: Fn(u32) -> bool>(source: &S, part: Part, test: F) -> bool
     requires { F.IsAlwaysCallable test }
     ensures { (t : ℕ → Bool) → ((w : ℕ) (b : Bool) → F.post test w b → b ≡ t w) → result ≡ list_all t (words_of (S.function source.now).words part) }
@@ -27,7 +28,7 @@ pub fn all_words<S: Source, F: Fn(u32) -> bool>(source: &S, part: Part, test: F)
 }
 
 // Tests what is told from one position on in turn, each with what the test before answered. It ends
-// where nothing is told. It counts positions as above, and each is a step of a place.
+// where nothing is told. Its count is the step of a place too.
 pub fn test_each<
     T: Copy,
     M: Copy,

@@ -1,5 +1,5 @@
 // Which scopes have a range that the function can have. How many numbers it has, `last`, is known only
-// after the first walk, so it is a parameter and no part of what is tested.
+// after the first walk: tried in a struct around what is tested, it made each clause longer by a path.
 ghost use Rattle.std.specs.Prelude.{◌≡◌};
 ghost use Rattle.visitors.specs.Parts.{words_of};
 ghost use Rattle.function_tests.specs.Ranges.{range_sound, names_sound, all_sound, scope_known, all_known};

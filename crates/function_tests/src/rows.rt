@@ -8,6 +8,7 @@ use crate::tested::Tested;
 use react_compiler_hir::{BlockKind, BlockRow, InstructionRow, Kind, Source};
 use visitors::{Part, instruction_shape, operands, reads, successors, targets, terminal_shape};
 
+// An instruction and a terminal have tables, fields and a rule on successors of their own.
 fn instruction_shaped(row: &InstructionRow) -> bool
     ensures { result ≡ instruction_shaped row.now }
 {

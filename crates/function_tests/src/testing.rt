@@ -13,6 +13,7 @@ use react_compiler_hir::{
 };
 
 impl<S: Source> Tested<'_, S> {
+    // The limits of a record's counts too, but here of lengths, which no `Counts` could hold.
     fn within_limits(&self) -> bool
         ensures { result ≡ within_limits self.now.function (length self.now.scopes) (length self.now.identifiers) }
     {

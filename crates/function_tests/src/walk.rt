@@ -1,4 +1,5 @@
-// The first walk: rows and numbers. A row and its position are told apart, so they are two parameters.
+// The first walk: rows and numbers. A row and its position are two parameters: `test_each` hands on
+// the one and counts the other, and a pair of them would be made only to be taken apart.
 ghost use Rattle.std.specs.Prelude.{◌≡◌, ◌≤◌, length};
 ghost use Rattle.visitors.specs.Mentions.{instructions_of};
 ghost use Rattle.function_tests.specs.Walks.{number_tested, instruction_tested, block_tested, run_walked, block_walked, blocks_walked};

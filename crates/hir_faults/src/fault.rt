@@ -207,7 +207,7 @@ impl LayerFault for PassFault {
 }
 
 impl Fault {
-    // Its number in the table of faults.
+    // Its number in the table of faults, by a name as above.
     pub fn number(self) -> u32
         ensures { result ≡ fault_number self }
     {

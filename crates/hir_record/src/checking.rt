@@ -27,6 +27,7 @@ pub fn check(bytes: &[u8]) -> Result<Counts, Envelope<RecordFault>>
     if bytes.len() < BLOCKS_AT {
         return Err(Envelope::new(None, RecordFault::TooShort));
     }
+    // A pattern takes no constant, so the mark stands here in letters.
     let [b'H', b'I', b'R', high, low, rest @ ..] = bytes else {
         return Err(Envelope::new(None, RecordFault::NoMark));
     };

@@ -23,7 +23,8 @@ impl Words<'_> {
             .ok_or(Wanted::Number.at(at))
     }
 
-    // Some numbers, one after another.
+    // Some numbers, one after another. Tried with `array::try_from_fn`, it stayed open that an array of
+    // any length fits in memory.
     pub fn numbers<const N: usize>(self, at: usize) -> Result<[u32; N], Problem> {
         let mut all = [0u32; N];
         for (i, slot) in all.iter_mut().enumerate() {

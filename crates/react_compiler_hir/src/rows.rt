@@ -50,7 +50,7 @@ impl IdentifierRow {
     }
 }
 
-// A block: its run of instructions, its terminal, and the list of the terminal's operands and
+// A block, by positions in other lists, as the record format has it: its run of instructions, its terminal, and the list of the terminal's operands and
 // then its successors.
 #[derive(Clone, Copy, Debug, PartialEq, Eq)]
 pub struct BlockRow {

@@ -60,7 +60,7 @@ impl Limited {
     }
 }
 
-// Counts of which only one is not 0.
+// Counts of which only one is not 0, by its place among the lists: the five are tried in turn.
 fn one_count(at: usize, count: u32) -> [u32; 5] {
     let mut counts = [0; 5];
     if let Some(slot) = counts.get_mut(at) {

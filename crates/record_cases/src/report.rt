@@ -4,6 +4,7 @@ use crate::made::Name;
 use crate::telling::tell;
 use hir_faults::{Envelope, LayerFault, RecordFault};
 use hir_record::{Counts, check, open};
+use react_compiler_hir::Row;
 use std::alloc::{AllocError, Global};
 use std::{fmt, io};
 
@@ -46,11 +47,13 @@ impl Checked {
 impl fmt::Display for Checked {
     fn fmt<W: fmt::Write>(&self, f: &mut fmt::Formatter<W>) -> fmt::Result {
         match self.0 {
-            Ok(c) => write!(
-                f,
-                "ok {} {} {} {} {}",
-                c.blocks, c.instructions, c.words, c.scopes, c.identifiers
-            ),
+            Ok(counts) => {
+                f.write_str("ok")?;
+                for count in counts.words() {
+                    write!(f, " {count}")?;
+                }
+                Ok(())
+            }
             Err(e) => write!(f, "fault {}", e.fault.number()),
         }
     }

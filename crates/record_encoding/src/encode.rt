@@ -8,7 +8,8 @@ use crate::row::{put_rows, put_words};
 use react_compiler_hir::{BlockRow, IdentifierRow, InstructionRow, RECORD_VERSION, ScopeRow};
 use std::alloc::{AllocError, Global};
 
-// A reader has the mark in a pattern, which takes no constant.
+// A reader takes the mark in a slice pattern, with what stands behind it, and a pattern takes no
+// constant.
 const MARK: [u8; 3] = *b"HIR";
 
 // The five lists of a record, in their order.

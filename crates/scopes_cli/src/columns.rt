@@ -15,7 +15,8 @@ pub struct Columns<'a> {
 }
 
 // A part of a list, each word behind a space, with a ? for the first that the source does not tell:
-// so it goes by positions, and not only by the words that are told.
+// so it goes by positions, and not only by the words that are told. No `Part` of the shapes, since its
+// start may be past all positions.
 #[derive(Drop)]
 struct Part<'a, S> {
     source: &'a S,

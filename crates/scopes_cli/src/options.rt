@@ -1,5 +1,5 @@
 // What the command line asks for.
-use std::alloc::{AllocError, AllocFailed, Global};
+use std::alloc::{AllocError, Global};
 use std::error::Error;
 use std::fmt;
 
@@ -59,14 +59,8 @@ pub enum OrderError {
     Memory(AllocError),
 }
 
-impl From<AllocError> for OrderError {
-    fn from(e: AllocError) -> OrderError {
-        OrderError::Memory(e)
-    }
-}
-
-impl<T: Drop> From<AllocFailed<T>> for OrderError {
-    fn from(e: AllocFailed<T>) -> OrderError {
+impl<E: Into<AllocError>> From<E> for OrderError {
+    fn from(e: E) -> OrderError {
         OrderError::Memory(e.into())
     }
 }

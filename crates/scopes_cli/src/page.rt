@@ -11,7 +11,7 @@ pub struct Page {
     pub identifiers: Vec<IdentifierRow>,
 }
 
-// Why there is no page.
+// Why there is no page. A refusal is printed by its layout, so the error has no `Display` of its own.
 #[derive(Debug, Drop)]
 pub enum PageError {
     Refused(Envelope<Fault>),

@@ -12,8 +12,8 @@ use std::{fs, io};
 
 // Does what the words after the program's name ask for. Answers whether it could be done for every
 // file: a bool, since the exit status is all that a caller makes of it.
-pub fn report(rt: &HostRuntime, words: &Vec<String>) -> io::Result<bool> {
-    match order_of(rt.alloc(), words.as_slice()) {
+pub fn report(rt: &HostRuntime, words: &[String]) -> io::Result<bool> {
+    match order_of(rt.alloc(), words) {
         Ok(Order::Help) => {
             rt.print(HELP)?;
             Ok(true)

@@ -10,7 +10,7 @@ fn run(rt: &HostRuntime, words: &[&str]) -> io::Result<()> {
     for word in words {
         all.push(String::from_str(rt.alloc(), word)?)?;
     }
-    let done = report(rt, &all)?;
+    let done = report(rt, all.as_slice())?;
     println!(rt; "every file accepted: {done}")
 }
 
