@@ -1,5 +1,5 @@
 // An inner crate: the disjoint set, over lent words. Word i is the parent of item i, and a root is its own parent.
-// In the words of a set every climb ends: `new` makes such words, and every method keeps them so. The methods ask for
+// In the words of a set every climb ends: `reset` makes such words, and every method keeps them so. The methods ask for
 // items that have a word.
 #![tactic(auto)]
 
@@ -28,7 +28,7 @@ impl<'a> DisjointSet<'a> {
         ensures len { length result.parents.now ≡ length parents.old }
         ensures lender { result.parents.ghost_name ≡ parents.entry.ghost_name }
     {
-        set_apart(parents);
+        DisjointSet::reset(parents);
         DisjointSet { parents }
     }
 }
@@ -36,15 +36,17 @@ impl<'a> DisjointSet<'a> {
 // That a call keeps the length and the lender of the words is said of before and after, so it stands
 // in each contract and in no field.
 impl DisjointSet<'_> {
-    // Makes every item its own root.
-    pub fn reset(&mut self)
-        requires { length self.old.parents.now ≤ 2 ^ 32 }
-        ensures words { self.new.parents.now ≡ apart (length self.old.parents.now) }
-        ensures own { (j : ℕ) → j < length self.old.parents.now → root self.new.parents.now j ≡ j }
-        ensures len { length self.new.parents.now ≡ length self.old.parents.now }
-        ensures lender { self.new.parents.ghost_name ≡ self.old.parents.ghost_name }
+    // Makes every item its own root, whatever the words held.
+    pub fn reset(parents: &mut [u32])
+        requires { length parents.old ≤ 2 ^ 32 }
+        ensures words { parents.new ≡ apart (length parents.old) }
+        ensures forest { Forest parents.new }
+        ensures own { (j : ℕ) → j < length parents.old → root parents.new j ≡ j }
+        ensures len { length parents.new ≡ length parents.old }
     {
-        set_apart(self.parents);
+        for (i, parent) in parents.iter_mut().enumerate() {
+            *parent = i as u32;
+        }
     }
 
     // The root of the item. Every item on the way gets the root as its parent.
@@ -96,18 +98,6 @@ impl DisjointSet<'_> {
         if item_root != top {
             self.parents[item_root as usize] = top;
         }
-    }
-}
-
-// Writes into each word its own place.
-fn set_apart(parents: &mut [u32])
-    requires { length parents.old ≤ 2 ^ 32 }
-    ensures words { parents.new ≡ apart (length parents.old) }
-    ensures forest { Forest parents.new }
-    ensures own { (j : ℕ) → j < length parents.old → root parents.new j ≡ j }
-{
-    for (i, parent) in parents.iter_mut().enumerate() {
-        *parent = i as u32;
     }
 }
 

@@ -1,7 +1,7 @@
 use Rattle.std.proofs.Common.{◌≡◌, length, sym, ap, ◌∙◌, subst, arith}
 use Rattle.disjoint_set.specs.Forest.{Forest, root, apart}
 use Rattle.disjoint_set.proofs.Climbs.{apart_is, apart_own, apart_forest, root_is}
-use Rattle.disjoint_set.proofs.set_apart.Goals as goal
+use Rattle.disjoint_set.proofs.DisjointSet.reset.Goals as goal
 
 pub returns : goal.returns
 returns c =
@@ -11,4 +11,5 @@ returns c =
       words = words;
       forest = subst Forest (sym words) (apart_forest n);
       own = λ j h. ap (λ qs. root qs j) words ∙ root_is (apart n) 0 j j (apart_own n j h);
+      len = omega arith;
     }
