@@ -1,4 +1,4 @@
-// The second walk: the ranges of the scopes that are named.
+// The second walk: the ranges of the scopes that are named. Its parameters are those of the first.
 ghost use Rattle.std.specs.Prelude.{◌≡◌, ◌≤◌, length};
 ghost use Rattle.visitors.specs.Mentions.{instructions_of};
 ghost use Rattle.function_tests.specs.Ranges.{instruction_sound};

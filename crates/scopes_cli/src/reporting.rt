@@ -34,7 +34,7 @@ pub fn report(rt: &HostRuntime, words: &[String]) -> io::Result<bool> {
 }
 
 fn run(rt: &HostRuntime, task: Task, layout: Layout, files: &[String]) -> io::Result<bool> {
-    // The one place where the layout is chosen.
+    // Matched once, since the command line gives a value; a closure for each layout would be no plainer.
     match layout {
         Layout::Columns => Reporter::new(rt, task, Columns { rt }).files(files),
         Layout::Plain => Reporter::new(rt, task, Plain { rt }).files(files),
@@ -85,7 +85,7 @@ impl<'a, P: Printer> Reporter<'a, P> {
     }
 
     fn page(&self, name: &str, source: &RecordSource, page: &Page) -> io::Result<bool> {
-        // The one place where the task is looked at.
+        // Matched once; as closures the two tasks would each take all that stands here.
         match self.task {
             Task::Show => self.printer.page(name, source, page)?,
             Task::Inspect => match inspect(source, page) {
