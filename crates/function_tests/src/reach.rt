@@ -67,12 +67,18 @@ impl<S: Source> Tested<'_, S> {
         requires { length self.now.function.blocks ≤ 1024 }
         ensures { result ≡ blocks_ranged self.now.kind self.now.function self.now.scopes self.now.identifiers last self.now.function.blocks }
     {
+        // A copy that no call is given the place of, so that it can stay in registers.
+        let tested = Tested {
+            source: self.source,
+            scopes: self.scopes,
+            identifiers: self.identifiers,
+        };
         test_each(
-            |i| self.source.block(i),
+            |i| tested.source.block(i),
             0,
-            self.source.block_count() as u32,
+            tested.source.block_count() as u32,
             (),
-            |block, (), row: BlockRow| self.reach_block(&row, block, last),
+            |block, (), row: BlockRow| tested.reach_block(&row, block, last),
         )
     }
 }
