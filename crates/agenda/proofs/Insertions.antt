@@ -1,10 +1,12 @@
--- An insertion keeps the order, and brings in one entry.
-use Rattle.std.proofs.Common.{◌≡◌, Bool, true, false, List, [], ◌∷◌, refl, inl, inr, arith}
+-- An insertion seen from the end of the list; it keeps the order, and brings in one entry.
+use Rattle.std.proofs.Common.{◌≡◌, Bool, true, false, List, [], ◌∷◌, ◌++◌, refl, ap, ◌∙◌, inl, inr, arith}
 use Rattle.std.specs.List.{AllByRecursion}
 use Rattle.std.specs.List.Sorted.{IsPermutation}
+use Rattle.std.proofs.Math.Bool.{and-true, and-false}
 use Rattle.std.proofs.ByRecursion.{All-weaker}
 use Rattle.std.proofs.lemmas.List.Sorted.{IsPermutation-refl, IsPermutation-trans, IsPermutation-cons, IsPermutation-swap}
 use Rattle.std.proofs.lemmas.List.Elements.{recursion_from_All}
+use Rattle.std.proofs.lemmas.List.Folds.{list_all-append}
 use Rattle.std.proofs.lemmas.List.Sums.{AllPass-from_list_all}
 use Rattle.std.proofs.lemmas.Bool.{cases_Bool, and_from, both_ways}
 use Rattle.agenda.specs.Order.{before_all, insert, Ordered}
@@ -15,6 +17,23 @@ pub shuffled_past : {X : Type 0} (e y : X) (ys zs : List X) → IsPermutation (e
 shuffled_past e y ys zs h = IsPermutation-trans (e ∷ y ∷ ys) (y ∷ e ∷ ys) (y ∷ zs) (IsPermutation-swap (e ∷ y ∷ ys) (y ∷ e ∷ ys) 0 1 (omega arith) (omega arith) refl) (IsPermutation-cons y (e ∷ ys) zs h)
 
 module _ {X : Type 0} (lt : X → X → Bool) (e : X) where
+  -- e passes the last entry
+  pub insert_passes : (ys : List X) (y : X) → lt e y ≡ true → insert lt e (ys ++ y ∷ []) ≡ insert lt e ys ++ y ∷ []
+  insert_passes [] y t = rw t
+  insert_passes (z ∷ zs) y t =
+      let all : before_all lt e (z ∷ zs ++ y ∷ []) ≡ before_all lt e (z ∷ zs) = list_all-append (lt e) (z ∷ zs) (y ∷ []) ∙ rw t (and-true (before_all lt e (z ∷ zs))) in
+      elim (cases_Bool (before_all lt e (z ∷ zs))) [
+        | inl b ↦ rw (all, b)
+        | inr b ↦ rw (all, b) (ap (λ us. z ∷ us) (insert_passes zs y t))
+      ]
+
+  -- e stays behind the last entry
+  pub insert_stays : (ys : List X) (y : X) → lt e y ≡ false → insert lt e (ys ++ y ∷ []) ≡ (ys ++ y ∷ []) ++ e ∷ []
+  insert_stays [] y f = rw f
+  insert_stays (z ∷ zs) y f =
+      let none : before_all lt e (z ∷ zs ++ y ∷ []) ≡ false = list_all-append (lt e) (z ∷ zs) (y ∷ []) ∙ rw f (and-false (before_all lt e (z ∷ zs))) in
+      rw none (ap (λ us. z ∷ us) (insert_stays zs y f))
+
   pub all_before : (xs : List X) → before_all lt e xs ≡ true → AllByRecursion (λ y. lt e y ≡ true) xs
   all_before xs h = recursion_from_All (λ y. lt e y ≡ true) xs (AllPass-from_list_all (lt e) xs h)
 

@@ -1,4 +1,4 @@
 pub mod Orders
 pub mod Insertions
 pub mod Sorting
-pub mod Places
+pub mod Sinks

@@ -1,5 +1,5 @@
 // A list that stays sorted, over lent rows.
-ghost use Rattle.std.specs.Prelude.{◌≡◌, ℕ, ◌+◌, ◌<◌, ◌≤◌, true, false, [], ◌∷◌, length, slice_index_or, IfSome, if◌then◌else◌, MatchOption, OnErr, is_ok, nat_lt, Some, codes};
+ghost use Rattle.std.specs.Prelude.{◌≡◌, ◌<◌, ◌≤◌, false, [], ◌∷◌, length, IfSome, if◌then◌else◌, MatchOption, OnErr, is_ok, nat_lt, Some, codes};
 ghost use Rattle.std.specs.List.{AllByRecursion};
 ghost use Rattle.std.specs.List.Sorted.{IsPermutation};
 ghost use Rattle.agenda.specs.Order.{insert, Ordered};
@@ -115,29 +115,24 @@ impl<E: Entry> Agenda<'_, E> {
         self.tail = count;
     }
 
-    // Moves up by one row what the entry goes before, and puts the entry there.
+    // Moves up by one row what the entry goes before, and puts the entry there. It looks from the end on, since most
+    // entries come nearly in order.
     fn place(&mut self, added: E)
         requires { self.old.tail < length self.old.rows.now }
         ensures entries { entries self.new ≡ insert E.before added (entries self.old) }
         ensures room { length self.new.rows.now ≡ length self.old.rows.now }
         ensures lender { self.new.rows.ghost_name ≡ self.old.rows.ghost_name }
     {
-        let place = self.head + place_among(self.held(), &added);
-        self.rows.copy_within(place..self.tail, place + 1);
+        let mut place = self.tail;
+        for i in (self.head..self.tail).rev() {
+            let entry = self.rows[i];
+            if !added.goes_before(&entry) {
+                break;
+            }
+            self.rows[i + 1] = entry;
+            place = i;
+        }
         self.rows[place] = added;
         self.tail += 1;
-    }
-}
-
-// The place behind the last entry that the added one does not go before. It looks from the end on, since most entries
-// come nearly in order.
-fn place_among<E: Entry>(entries: &[E], added: &E) -> usize
-    ensures within { result ≤ length entries.now }
-    ensures passes { (k : ℕ) (d : E) → result ≤ k → k < length entries.now → E.before added.now (slice_index_or entries.now k d) ≡ true }
-    ensures stays { (k : ℕ) (d : E) → k + 1 ≡ result → E.before added.now (slice_index_or entries.now k d) ≡ false }
-{
-    match entries.iter().rposition(|entry| !added.goes_before(entry)) {
-        Some(last) => last + 1,
-        None => 0,
     }
 }

@@ -3,7 +3,6 @@ ghost use Rattle.std.proofs.Common.{rules};
 ghost use Rattle.agenda.specs.Scopes.{opening_numbers, opens_before, closing_numbers, closes_before};
 
 use crate::entry::Entry;
-use std::cmp::Reverse;
 
 // A scope with its range, and the place at which it was first named.
 #[derive(Clone, Copy, Debug, PartialEq, Eq)]
@@ -44,7 +43,8 @@ impl Entry for OpeningEntry {
 
     fn goes_before(&self, other: &OpeningEntry) -> bool {
         let (a, b) = (self.row, other.row);
-        (a.start, Reverse(a.end), a.named) < (b.start, Reverse(b.end), b.named)
+        a.start < b.start
+            || (a.start == b.start && (a.end > b.end || (a.end == b.end && a.named < b.named)))
     }
 }
 
@@ -67,6 +67,7 @@ impl Entry for ClosingEntry {
 
     fn goes_before(&self, other: &ClosingEntry) -> bool {
         let (a, b) = (self.row, other.row);
-        (a.end, Reverse(a.start), a.named) < (b.end, Reverse(b.start), b.named)
+        a.end < b.end
+            || (a.end == b.end && (a.start > b.start || (a.start == b.start && a.named < b.named)))
     }
 }
