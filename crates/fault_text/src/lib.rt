@@ -1,10 +1,15 @@
 // A fault as text: one line for a person, and the same facts as words for a program.
 #![tactic(auto)]
 
-mod or_dash;
+ghost use Rattle.std.specs.Prelude.{Some};
+ghost use Rattle.fault_text.specs.Lines.{fault_line, plain_fault};
 
-use hir_faults::{Envelope, Fault, Place};
+mod or_dash;
+mod parts;
+
+use hir_faults::{Envelope, Fault};
 pub use or_dash::OrDash;
+use parts::{PlacePart, SourcePart};
 use std::fmt;
 
 // Its number, what it means, its layer and its place.
@@ -16,26 +21,24 @@ pub struct FaultLine(pub Envelope<Fault>);
 pub struct PlainFault(pub Envelope<Fault>);
 
 impl fmt::Display for FaultLine {
+    ghost output = { λ l. Some (fault_line l.0) };
+
     fn fmt<W: fmt::Write>(&self, f: &mut fmt::Formatter<W>) -> fmt::Result {
-        let e = self.0;
-        write!(
-            f,
-            "fault {}: {} ({} layer",
-            e.fault.number(),
-            e.fault,
-            e.layer
-        )?;
-        if let Some(kind) = e.fault.source_kind() {
-            write!(f, ", source kind {kind}")?;
-        }
-        match e.place {
-            Some(Place { block, step }) => write!(f, ", block {block}, step {step})"),
-            None => f.write_str(", no place)"),
-        }
+        let Envelope {
+            fault,
+            layer,
+            place,
+        } = self.0;
+        let number = fault.number();
+        let source = SourcePart(fault.source_kind());
+        let place = PlacePart(place);
+        write!(f, "fault {number}: {fault} ({layer} layer{source}{place})")
     }
 }
 
 impl fmt::Display for PlainFault {
+    ghost output = { λ l. Some (plain_fault l.0) };
+
     fn fmt<W: fmt::Write>(&self, f: &mut fmt::Formatter<W>) -> fmt::Result {
         let Envelope {
             fault,
