@@ -1,6 +1,7 @@
 // How many rows and words a record has, and the limits on them.
 ghost use Rattle.std.specs.Prelude.{◌≡◌, ◌*◌, ◌^◌, ◌<◌, ◌≤◌, refl};
 ghost use Rattle.std.proofs.Common.{rules};
+ghost use Rattle.react_compiler_hir.specs.Places.{by_places};
 ghost use Rattle.hir_record.specs.Format.{count_words, counts_of_words, over_limit, instructions_at, words_at, scopes_at, identifiers_at, record_length};
 
 use crate::bytes::WORD_BYTES;
@@ -98,6 +99,8 @@ impl Row<5> for Counts {
     ghost of_words = { counts_of_words };
 
     ghost back = { λ c. refl };
+
+    ghost forth = { by_places 5 };
 
     ghost few = { Prim.search rules };
 

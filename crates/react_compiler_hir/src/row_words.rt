@@ -1,6 +1,7 @@
 // Rows as their words, in the order in which records, listings and lines have them.
-ghost use Rattle.std.specs.Prelude.{◌≡◌, ℕ, ◌≤◌, List, [], ◌∷◌, refl};
+ghost use Rattle.std.specs.Prelude.{◌≡◌, ℕ, ◌≤◌, List, [], ◌∷◌, length, refl};
 ghost use Rattle.std.proofs.Common.{rules};
+ghost use Rattle.react_compiler_hir.specs.Places.{by_places};
 ghost use Rattle.react_compiler_hir.specs.RowWords.{word_of, block_words, block_of, instruction_words, instruction_of, scope_words, scope_row_of, identifier_words, identifier_of};
 
 use crate::rows::{BlockRow, IdentifierRow, InstructionRow, MutableRange, ScopeRow};
@@ -21,6 +22,9 @@ pub trait Row<const N: usize>: Copy {
     // The words give the row back.
     ghost back: { (x : Self) → of_words (words x) ≡ x };
 
+    // The row of `N` words gives the words back.
+    ghost forth: { (ws : List ℕ) → length ws ≡ N → words (of_words ws) ≡ ws };
+
     // There are few of them, so their bytes can be counted.
     ghost few: { N ≤ 8 };
 }
@@ -31,6 +35,8 @@ impl Row<1> for u32 {
     ghost of_words = { word_of };
 
     ghost back = { λ w. refl };
+
+    ghost forth = { by_places 1 };
 
     ghost few = { Prim.search rules };
 
@@ -50,6 +56,8 @@ impl Row<3> for ScopeRow {
     ghost of_words = { scope_row_of };
 
     ghost back = { λ s. refl };
+
+    ghost forth = { by_places 3 };
 
     ghost few = { Prim.search rules };
 
@@ -71,6 +79,8 @@ impl Row<5> for IdentifierRow {
     ghost of_words = { identifier_of };
 
     ghost back = { λ i. refl };
+
+    ghost forth = { by_places 5 };
 
     ghost few = { Prim.search rules };
 
@@ -95,6 +105,8 @@ impl Row<8> for BlockRow {
     ghost of_words = { block_of };
 
     ghost back = { λ b. refl };
+
+    ghost forth = { by_places 8 };
 
     ghost few = { Prim.search rules };
 
@@ -141,6 +153,8 @@ impl Row<6> for InstructionRow {
     ghost of_words = { instruction_of };
 
     ghost back = { λ i. refl };
+
+    ghost forth = { by_places 6 };
 
     ghost few = { Prim.search rules };
 
