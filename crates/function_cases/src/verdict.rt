@@ -23,12 +23,21 @@ impl fmt::Display for Verdict {
     }
 }
 
+// What a merge wants: 8 words for each block and each scope. A test has its own numbers.
+fn exactly_enough(blocks: usize, scopes: usize) -> Memory {
+    Memory::Merge {
+        words: blocks.saturating_add(scopes).saturating_mul(8),
+        openings: scopes,
+        closings: scopes,
+        roots: scopes,
+    }
+}
+
 fn tested<S: Source>(source: &S, case: &Case, listing: &Listing) -> Verdict {
     let scopes = listing.scopes.as_slice();
-    let memory = case.memory.unwrap_or_else(|| Memory::exactly_enough(
-        source.block_count(),
-        scopes.len(),
-    ));
+    let memory = case
+        .memory
+        .unwrap_or_else(|| exactly_enough(source.block_count(), scopes.len()));
     Verdict(test_function(source, scopes, listing.identifiers.as_slice(), memory))
 }
 

@@ -138,11 +138,13 @@ pub fn parse(heap: Global, text: &str) -> Result<Listing, ListingError<'_>> {
         listing: Listing::new(heap),
         open: None,
     };
+    let mut last = 0;
     for (number, line) in (1..).zip(text.lines()) {
+        last = number;
         reader.line(number, line)?;
     }
     if reader.open.is_some() {
-        return Err(Wanted::Terminal.at(0).of_line(text.lines().count(), &[]));
+        return Err(Wanted::Terminal.at(0).of_line(last, &[]));
     }
     Ok(reader.listing)
 }

@@ -1,13 +1,27 @@
 // Loading a record into tables of several lengths, whose rows are marked before.
-use crate::checksum::Checksum;
+use crate::checksum::{Checksum, Fields};
 use hir_faults::Fault;
 use hir_record::load;
-use react_compiler_hir::{IdentifierRow, Row, ScopeRow};
+use react_compiler_hir::{IdentifierRow, MutableRange, ScopeRow};
 use std::alloc::{AllocError, Global};
 use std::fmt;
 
 // Each word of a marked row.
 const MARK: u32 = 2_863_311_530;
+
+const MARKED: MutableRange = MutableRange {
+    id: MARK,
+    start: MARK,
+    end: MARK,
+};
+
+const MARKED_SCOPE: ScopeRow = ScopeRow { range: MARKED };
+
+const MARKED_IDENTIFIER: IdentifierRow = IdentifierRow {
+    mutable_range: MARKED,
+    scope: MARK,
+    primitive: MARK,
+};
 
 // A load that was refused, and whether every row is as it was.
 #[derive(Clone, Copy, Debug, PartialEq, Eq)]
@@ -44,11 +58,9 @@ struct Tables {
 impl Tables {
     // So many rows, each of them marked.
     fn marked(heap: Global, scopes: u32, identifiers: u32) -> Result<Tables, AllocError> {
-        let scope = ScopeRow::from_words(&[MARK; 3]);
-        let identifier = IdentifierRow::from_words(&[MARK; 5]);
         Ok(Tables {
-            scopes: vec![in heap; scope; scopes as usize]?,
-            identifiers: vec![in heap; identifier; identifiers as usize]?,
+            scopes: vec![in heap; MARKED_SCOPE; scopes as usize]?,
+            identifiers: vec![in heap; MARKED_IDENTIFIER; identifiers as usize]?,
         })
     }
 
@@ -73,7 +85,7 @@ impl Tables {
         ) {
             Ok(counts) => {
                 let mut sum = Checksum::new();
-                sum.add_words(&counts.words());
+                counts.add_to(&mut sum);
                 self.add_to(&mut sum);
                 Ok(sum)
             }

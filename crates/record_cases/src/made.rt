@@ -42,6 +42,9 @@ pub fn record_with(heap: Global, counts: [u32; 5], body: usize) -> Result<Vec<u8
     let mut out = Vec::new(heap);
     out.extend_from_slice(b"HIR\x00\x01")?;
     put_counts(&mut out, counts)?;
-    out.extend((0..body).map(|i| (i % 251) as u8))?;
+    // A loop: `extend` by a map takes a sixth more instructions.
+    for i in 0..body {
+        out.push((i % 251) as u8)?;
+    }
     Ok(out)
 }

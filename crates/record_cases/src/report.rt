@@ -4,7 +4,6 @@ use crate::made::Name;
 use crate::telling::tell;
 use hir_faults::{Envelope, LayerFault, RecordFault};
 use hir_record::{Counts, check, open};
-use react_compiler_hir::Row;
 use std::alloc::{AllocError, Global};
 use std::{fmt, io};
 
@@ -47,13 +46,11 @@ impl Checked {
 impl fmt::Display for Checked {
     fn fmt<W: fmt::Write>(&self, f: &mut fmt::Formatter<W>) -> fmt::Result {
         match self.0 {
-            Ok(counts) => {
-                f.write_str("ok")?;
-                for count in counts.words() {
-                    write!(f, " {count}")?;
-                }
-                Ok(())
-            }
+            Ok(counts) => write!(
+                f,
+                "ok {} {} {} {} {}",
+                counts.blocks, counts.instructions, counts.words, counts.scopes, counts.identifiers
+            ),
             Err(e) => write!(f, "fault {}", e.fault.number()),
         }
     }

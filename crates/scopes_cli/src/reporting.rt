@@ -11,7 +11,7 @@ use std::io::Read;
 use std::{fs, io};
 
 // Does what the words after the program's name ask for. Answers whether it could be done for every
-// file: a bool, since the exit status is all that a caller makes of it.
+// file: a bool, since a caller makes an exit status or a line of it, and no more.
 pub fn report(rt: &HostRuntime, words: &[String]) -> io::Result<bool> {
     match order_of(rt.alloc(), words) {
         Ok(Order::Help) => {
