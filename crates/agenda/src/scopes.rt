@@ -1,4 +1,5 @@
 // Entries for scopes, in the order in which they open and in the order in which they close.
+ghost use Rattle.std.specs.Prelude.{◌≡◌, nat_lt};
 ghost use Rattle.std.proofs.Common.{rules};
 ghost use Rattle.agenda.specs.Scopes.{opening_numbers, opens_before, closing_numbers, closes_before};
 
@@ -21,6 +22,12 @@ impl ScopeEntry {
         end: 0,
         named: 0,
     };
+
+    fn named_before(&self, other: &ScopeEntry) -> bool
+        ensures { result ≡ nat_lt self.now.named other.now.named }
+    {
+        self.named < other.named
+    }
 }
 
 // The earlier start goes first; of equal starts the later end, and of equal ranges what was named earlier.
@@ -43,8 +50,13 @@ impl Entry for OpeningEntry {
 
     fn goes_before(&self, other: &OpeningEntry) -> bool {
         let (a, b) = (self.row, other.row);
-        a.start < b.start
-            || (a.start == b.start && (a.end > b.end || (a.end == b.end && a.named < b.named)))
+        if a.start != b.start {
+            return a.start < b.start;
+        }
+        if a.end != b.end {
+            return a.end > b.end;
+        }
+        a.named_before(&b)
     }
 }
 
@@ -67,7 +79,12 @@ impl Entry for ClosingEntry {
 
     fn goes_before(&self, other: &ClosingEntry) -> bool {
         let (a, b) = (self.row, other.row);
-        a.end < b.end
-            || (a.end == b.end && (a.start > b.start || (a.start == b.start && a.named < b.named)))
+        if a.end != b.end {
+            return a.end < b.end;
+        }
+        if a.start != b.start {
+            return a.start > b.start;
+        }
+        a.named_before(&b)
     }
 }
