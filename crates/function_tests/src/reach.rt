@@ -67,7 +67,7 @@ impl<S: Source> Tested<'_, S> {
         requires { length self.now.function.blocks ≤ 1024 }
         ensures { result ≡ blocks_ranged self.now.kind self.now.function self.now.scopes self.now.identifiers last self.now.function.blocks }
     {
-        // A copy that no call is given the place of, so that it can stay in registers.
+        // A copy of its own: with the calls below put into this body, it can stay in registers.
         let tested = Tested {
             source: self.source,
             scopes: self.scopes,
