@@ -63,11 +63,13 @@ impl<S: Source> Tested<'_, S> {
         }
     }
 
+    // A walk has a body of its own, as the first.
+    #[inline(never)]
     pub fn reach_blocks(&self, last: u32) -> Result<(), Envelope<Fault>>
         requires { length self.now.function.blocks ≤ 1024 }
         ensures { result ≡ blocks_ranged self.now.kind self.now.function self.now.scopes self.now.identifiers last self.now.function.blocks }
     {
-        // A copy of its own: with the calls below put into this body, it can stay in registers.
+        // A copy: with the calls below put into this body, it can stay in registers.
         let tested = Tested {
             source: self.source,
             scopes: self.scopes,

@@ -75,8 +75,8 @@ impl<S: Source> Tested<'_, S> {
         self.test_number(Place { block, step }, walked, row.terminal_number)
     }
 
-    // Walks all blocks, and answers how many numbers there are. With both walks in one body, the second
-    // would have too few registers.
+    // Walks all blocks, and answers how many numbers there are. With both walks in one body there would
+    // be too few registers.
     #[inline(never)]
     pub fn walk_blocks(&self) -> Result<u32, Envelope<Fault>>
         requires { length self.now.function.blocks ≤ 1024 }
